@@ -9,7 +9,6 @@ use Rattle.wb_sql.specs.Among.{HasOffice}
 use Rattle.wb_states.specs.declared.command.Command.{Command}
 use Rattle.wb_states.specs.declared.command.Command.TheVariants as of
 use Rattle.wb_states.specs.declared.command.Enter.{Enter}
-use Rattle.wb_states.specs.declared.record.Record.{Record}
 use Rattle.wb_states.specs.declared.reply.Assignment.{Assignment}
 use Rattle.wb_states.specs.declared.reply.Reply.{Reply}
 use Rattle.wb_states.specs.declared.reply.Reply.TheVariants.{Again}
@@ -19,6 +18,7 @@ use Rattle.wb_states.specs.Forms as form
 use Rattle.wb_states.specs.Limits.{count_limit}
 use Rattle.wb_states.specs.Machine.{Machine, Key}
 use Rattle.wb_states.specs.Queue.{Entry}
+use Rattle.wb_archive.specs.Tables.{HasFittingTake}
 use Rattle.wb_step.specs.Locality.{LooksAlike}
 use Rattle.wb_step.specs.Step.{step}
 use Rattle.wb_store.specs.Stands.{StandsFor}
@@ -58,10 +58,6 @@ abbrev pub IsThere : Machine → Option Entry → Type 0
 IsThere machine found = IfSome found (λ entry. IsSome (map.get machine.records entry.0))
 
 -- ---- the numbers that are written
-
--- the take number of the record, if it has one, is at most the limit
-abbrev pub HasFittingTake : Record → Type 0
-HasFittingTake current = IfSome current.take (λ take_number. take_number ≤ count_limit)
 
 -- the two counts are at most the limit
 abbrev pub HasFittingCounts : Machine → Type 0

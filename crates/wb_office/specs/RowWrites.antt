@@ -4,10 +4,10 @@ use Rattle.deb_text.specs.Lists.{IsIn}
 use Rattle.wb_states.specs.declared.store_fault.StoreFault.{StoreFault}
 use Rattle.wb_states.specs.declared.store_fault.Table.TheVariants.{SourceRecord}
 use Rattle.wb_states.specs.Queue.{Entry}
+use Rattle.wb_archive.specs.Tables.{HasFittingTake}
 use Rattle.wb_store.specs.Faults.{unfit}
 use Rattle.wb_store.specs.Writes as write
 use Rattle.wb_store.specs.Writes.{OfficeWrite}
-use Rattle.wb_office.specs.Changed.{HasFittingTake}
 
 -- the write puts one of these records
 abbrev pub PutsOne : List Entry → OfficeWrite → Type 0

@@ -1,7 +1,7 @@
 //! What an accepted command changed in a part of the office, written to the tables of the whole office: one record, one
 //! architecture or one builder, and the two counts.
 
-ghost use Rattle.std.specs.Prelude.{◌≡◌, ◌↔◌, false, None, Some, IfErr, IfOk, IsTrue, OnOk};
+ghost use Rattle.std.specs.Prelude.{◌≡◌, false, None, Some, IfErr, IfOk, OnOk};
 ghost use Rattle.std.specs.FinMap as map;
 ghost use Rattle.wb_states.specs.declared.store_fault.StoreFault.TheVariants.{Memory};
 ghost use Rattle.wb_states.specs.declared.store_fault.Table.TheVariants.{Office, SourceRecord};
@@ -10,13 +10,13 @@ ghost use Rattle.wb_store.specs.Faults.{IsUnfit};
 ghost use Rattle.wb_store.specs.Writes as write;
 ghost use Rattle.wb_office.specs.Changed.{ChangesBy, IsStepOf, IsThere, IsWriteOf, IsWriteOfRecord, Writes};
 ghost use Rattle.wb_office.specs.Changed.{before_counts, found_at};
-ghost use Rattle.wb_office.specs.Changed.{HasFittingCounts, HasFittingTake, HasFittingTakeAt, LacksFittingNumbers};
+ghost use Rattle.wb_office.specs.Changed.{HasFittingCounts, HasFittingTakeAt, LacksFittingNumbers};
 
 use deb_text::Text;
 use sqlite::Alter;
 use wb_states::{COUNT_LIMIT, Command, Counts, OsCpu, Record, StoreFault, Table, command};
 use wb_step::OfficePart;
-use wb_store::{Writing, unfit};
+use wb_store::{Writing, has_fitting_take, unfit};
 
 /// Writes the change of an accepted command, and the counts after it, in a transaction that is under way. `after` is
 /// the part of the office in which the command was carried out, and `key` is that of the record that it put. The fault
@@ -122,22 +122,12 @@ fn write_record<S: Alter + Drop>(
     let Some(current) = after.get(arch, source)? else {
         return Ok(());
     };
-    if !fits(current) {
+    if !has_fitting_take(current) {
         return Err(unfit(Table::SourceRecord));
     }
     if is_new {
         writing.put(arch, source, current)
     } else {
         writing.replace(arch, source, current)
-    }
-}
-
-/// Whether the take number of the record, if it has one, fits.
-pub(crate) fn fits(current: &Record) -> bool
-    ensures value { IsTrue result ↔ HasFittingTake current.now }
-{
-    match current.take {
-        Some(take_number) => take_number <= COUNT_LIMIT,
-        None => true,
     }
 }

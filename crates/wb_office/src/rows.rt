@@ -5,10 +5,9 @@ ghost use Rattle.wb_merge.specs.Reported.{with_rows};
 ghost use Rattle.wb_office.specs.RowWrites.{HasTakeOverLimit, PutsOne};
 ghost use Rattle.wb_office.specs.Turns.{ChangesInTurn};
 
-use crate::change::fits;
 use sqlite::Alter;
 use wb_states::{KeyedRecord, StoreFault, Table};
-use wb_store::{Writing, unfit};
+use wb_store::{Writing, has_fitting_take, unfit};
 
 /// Puts these records, one after another; all else stays. The fault is that of the statement that failed, or `Damaged`
 /// with row 0 of the records at one whose take number is above the limit.
@@ -22,7 +21,7 @@ pub(crate) fn put_all<S: Alter + Drop>(
         writing.old.store.now writing.new.store.now result }
 {
     for row in rows {
-        if !fits(&row.current) {
+        if !has_fitting_take(&row.current) {
             return Err(unfit(Table::SourceRecord));
         }
         writing.put(&row.arch, &row.source, &row.current)?;

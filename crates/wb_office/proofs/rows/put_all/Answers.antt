@@ -8,12 +8,12 @@ use Rattle.wb_office.proofs.TurnLemmas.{not_made}
 use Rattle.wb_office.proofs.WrittenRowLemmas.{fails_among, having, in_place, put_all, put_next}
 use Rattle.wb_office.proofs.rows.put_all.Goals as goal
 
-pub returns-then-not-fits-clause-changes : goal.returns-then-not-fits-clause-changes
-returns-then-not-fits-clause-changes g c =
+pub returns-then-not-has_fitting_take-clause-changes : goal.returns-then-not-has_fitting_take-clause-changes
+returns-then-not-has_fitting_take-clause-changes g c =
     c.loop-row.invariant.rest _ _ (not_made g.S.Store _ (
       c.unfit.ensures,
-      λ all. both_ways _ c.if-not-fits.true
-          (c.fits.ensures.value.1 (all (entry_of c.row-item.result) (in_place entry_of c.args.rows.now c.loop-row.row-index c.row-item.result c.loop-row-test.true c.row-item.is))),
+      λ all. both_ways _ c.if-not-has_fitting_take.true
+          (c.has_fitting_take.ensures.value.1 (all (entry_of c.row-item.result) (in_place entry_of c.args.rows.now c.loop-row.row-index c.row-item.result c.loop-row-test.true c.row-item.is))),
     ))
 
 pub returns-in_err-put-clause-changes : goal.returns-in_err-put-clause-changes
