@@ -43,7 +43,7 @@ words-alike text other part given (Some words) alike same packages =
     ∙ (λ i. listing_kept (with_words (same i) words) (kept_sources other) (kept_binaries (with_words (same i) words) given.packages))
     ∙ sym (listing_of-kept other given.packages (with_words given.arch words))
 
-listing-alike : (machine : Machine) (text other : List ℕ) (part given : Part) → AreAlike text other → part.arch ≡ given.arch → AreAlike part.packages given.packages
+pub listing-alike : (machine : Machine) (text other : List ℕ) (part given : Part) → AreAlike text other → part.arch ≡ given.arch → AreAlike part.packages given.packages
     → part_listing machine text part ≡ part_listing machine other given
 unfolding part_listing
 listing-alike machine text other part given alike same packages =

@@ -9,6 +9,7 @@ pub mod MergeLemmas
 pub mod NameCountLemmas
 pub mod PartLemmas
 pub mod ReadLemmas
+pub mod ReaderLemmas
 pub mod StopLemmas
 pub mod WaitedLemmas
 pub mod WaitLemmas

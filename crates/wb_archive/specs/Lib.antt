@@ -4,6 +4,7 @@ pub mod Feeds
 pub mod Fills
 pub mod Merges
 pub mod Parts
+pub mod Readers
 pub mod Reads
 pub mod Sources
 pub mod Tables

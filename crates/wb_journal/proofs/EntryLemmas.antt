@@ -1,12 +1,14 @@
 -- No number of a command is a float, so its text is that of its object.
-use Rattle.std.proofs.Common.{◌≡◌, List, [], ◌∷◌, false, refl}
+use Rattle.std.proofs.Common.{◌≡◌, List, [], ◌∷◌, map, false, refl}
 use Rattle.std.specs.Prelude.{ℕ, ℤ, Option, None, Some, pos, negsuc}
 use Rattle.serde_json.specs.Find.{is_float, of_integer}
+use Rattle.serde_json.specs.View.{items_of}
 use Rattle.serde_json.specs.Written.{has_float, items_have_float}
 use Rattle.wb_states.specs.declared.command.Command.{Command}
 use Rattle.wb_states.specs.declared.command.Command.TheVariants.{AddArch, AddBuilder, Enter, Next, Take, Built, Uploaded, Waits, PutBack, Attempted, GiveBack, DepWait, Fail, NotForUs, Rebuild, BuildPriority, Merge, Report}
 use Rattle.wb_states.specs.declared.command.Part.{Part}
-use Rattle.wb_journal.specs.Commands.{number_or_null, value_of_command, values_of_parts}
+use Rattle.wb_states.specs.declared.reply.PartReply.{PartReply}
+use Rattle.wb_journal.specs.Commands.{number_or_null, value_of_arch, value_of_command, value_of_merged, values_of_parts}
 
 is_float-of_integer : (z : ℤ) → is_float (of_integer z) ≡ false
 is_float-of_integer (pos n) = refl
@@ -41,4 +43,12 @@ has_float-value_of_command (BuildPriority given) = rw (is_float-of_integer given
 has_float-value_of_command (Merge given) = rw (items_have_float-values_of_parts given.parts) refl
 has_float-value_of_command (Report given) = refl
 
-pub ruleset floats_of_commands = (has_float-value_of_command)
+items_have_float-replies : (replies : List PartReply) → items_have_float (items_of (map (λ (reply : PartReply). value_of_arch reply.arch) replies)) ≡ false
+items_have_float-replies [] = refl
+items_have_float-replies (reply ∷ replies) = items_have_float-replies replies
+
+-- nor is one of a merge, by its replies
+pub has_float-value_of_merged : (replies : List PartReply) → has_float (value_of_merged replies) ≡ false
+has_float-value_of_merged replies = rw (items_have_float-replies replies) refl
+
+pub ruleset floats_of_commands = (has_float-value_of_command, has_float-value_of_merged)

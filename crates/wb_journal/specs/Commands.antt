@@ -8,6 +8,7 @@ use Rattle.wb_states.specs.declared.command.Command.TheVariants.{AddArch, AddBui
 use Rattle.wb_states.specs.declared.command.Held.{Held}
 use Rattle.wb_states.specs.declared.command.Part.{Part}
 use Rattle.wb_states.specs.declared.command.SetAside.{SetAside}
+use Rattle.wb_states.specs.declared.reply.PartReply.{PartReply}
 
 -- the value of a number that may be missing
 abbrev pub number_or_null : Option ℕ → Data
@@ -37,13 +38,27 @@ noted_value name given = object
     (member (codes "source") (string given.source)
     (member (codes "version") (string given.version) no_members)))))
 
--- the object of a part of a merge: its architecture
+-- the object of a part of a merge, by its architecture
+abbrev pub value_of_arch : List ℕ → Data
+value_of_arch arch = object (member (codes "arch") (string arch) no_members)
+
+-- the object of a part of a merge
 abbrev pub value_of_part : Part → Data
-value_of_part part = object (member (codes "arch") (string part.arch) no_members)
+value_of_part part = value_of_arch part.arch
 
 -- the objects of the parts of a merge, in their order
 abbrev pub values_of_parts : List Part → Items
 values_of_parts parts = items_of (map value_of_part parts)
+
+-- the object of a merge with these objects of its parts
+abbrev pub merge_value : Items → Data
+merge_value parts = object
+    (member (codes "command") (string (codes "merge"))
+    (member (codes "parts") (array parts) no_members))
+
+-- the object of a merge that was accepted with this reply, by the architectures of its parts
+abbrev pub value_of_merged : List PartReply → Data
+value_of_merged replies = merge_value (items_of (map (λ reply. value_of_arch reply.arch) replies))
 
 -- the object of a command: its name and its arguments; of a merge the architectures, and of a report how many bytes it has
 abbrev pub value_of_command : Command → Data
@@ -107,9 +122,7 @@ value_of_command (BuildPriority given) = object
     (member (codes "source") (string given.source)
     (member (codes "value") (number (of_integer given.value))
     (member (codes "version") (string given.version) no_members)))))
-value_of_command (Merge given) = object
-    (member (codes "command") (string (codes "merge"))
-    (member (codes "parts") (array (values_of_parts given.parts)) no_members))
+value_of_command (Merge given) = merge_value (values_of_parts given.parts)
 value_of_command (Report given) = object
     (member (codes "arch") (string given.arch)
     (member (codes "bytes") (number (unsigned (length given.text)))

@@ -1,13 +1,15 @@
 -- The lines of a journal: JSON texts (RFC 8259) with their keys in byte order and no space.
-use Rattle.std.specs.Prelude.{ℕ, List, ◌++◌, Option, None, Some, codes, decimal}
+use Rattle.std.specs.Prelude.{ℕ, List, [], ◌++◌, Option, None, Some, codes, decimal}
 use Rattle.json.specs.Print.{quoted}
+use Rattle.serde_json.specs.Data.{Data}
 use Rattle.serde_json.specs.Written.{compact_text}
 use Rattle.wb_api.specs.Encoding.{reply_text}
 use Rattle.wb_states.specs.Commands.{name_of_command}
 use Rattle.wb_states.specs.declared.command.Command.{Command}
+use Rattle.wb_states.specs.declared.reply.PartReply.{PartReply}
 use Rattle.wb_states.specs.declared.reply.Reply.{Reply}
 use Rattle.wb_states.specs.declared.reply.Reply.TheVariants.{Done, Job, Again, Reported, Merged}
-use Rattle.wb_journal.specs.Commands.{value_of_command}
+use Rattle.wb_journal.specs.Commands.{value_of_command, value_of_merged}
 
 -- how many commands were accepted, by a reply
 abbrev pub accepted_of : Reply → ℕ
@@ -22,11 +24,27 @@ abbrev pub time_text : Option (List ℕ) → List ℕ
 time_text None = codes "null"
 time_text (Some time) = quoted time
 
--- the line of a command that was accepted at this time, with its reply
-unfoldable pub entry_text : Option (List ℕ) → Command → Reply → List ℕ
-entry_text time command reply =
+-- the line of a command of this name and with this object that was accepted at this time, with its reply
+unfoldable pub line_text : Option (List ℕ) → List ℕ → Data → Reply → List ℕ
+line_text time name object reply =
     codes "{\"accepted\":" ++ decimal (accepted_of reply)
-    ++ codes ",\"answer\":" ++ reply_text (name_of_command command) reply
-    ++ codes ",\"command\":" ++ compact_text (value_of_command command)
+    ++ codes ",\"answer\":" ++ reply_text name reply
+    ++ codes ",\"command\":" ++ compact_text object
     ++ codes ",\"time\":" ++ time_text time
     ++ codes "}\n"
+
+-- the line of a command that was accepted at this time, with its reply
+abbrev pub entry_text : Option (List ℕ) → Command → Reply → List ℕ
+entry_text time command reply = line_text time (name_of_command command) (value_of_command command) reply
+
+-- the parts of a merge to which this is the reply; no other command has any
+abbrev pub parts_of : Reply → List PartReply
+parts_of (Done accepted) = []
+parts_of (Job accepted assignment) = []
+parts_of (Again accepted assignment) = []
+parts_of (Reported accepted changed) = []
+parts_of (Merged accepted parts) = parts
+
+-- the line of a merge that was accepted at this time, by its reply
+abbrev pub merge_text : Option (List ℕ) → Reply → List ℕ
+merge_text time reply = line_text time (codes "merge") (value_of_merged (parts_of reply)) reply

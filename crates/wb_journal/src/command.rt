@@ -1,14 +1,14 @@
 //! Commands as the objects of a journal, with their arguments by name.
 ghost use Rattle.std.specs.Prelude.{◌≡◌, codes, map, IfOk};
-ghost use Rattle.serde_json.specs.View.{view};
-ghost use Rattle.wb_journal.specs.Commands.{named_value, noted_value, number_or_null, value_of_command, value_of_held, value_of_part};
+ghost use Rattle.serde_json.specs.View.{items_of, view};
+ghost use Rattle.wb_journal.specs.Commands.{merge_value, named_value, noted_value, number_or_null, value_of_arch, value_of_command, value_of_held, value_of_merged, value_of_part};
 ghost use Rattle.wb_states.specs.declared.command.Command.TheVariants.{AddArch, AddBuilder, Attempted, BuildPriority};
 ghost use Rattle.wb_states.specs.declared.command.Command.TheVariants.{DepWait, Enter, Merge, Next, Rebuild, Report, Take, Waits};
 
 use deb_text::Text;
 use serde_json::{Value, json};
 use std::alloc::{AllocError, Global};
-use wb_states::{Command, Part, command};
+use wb_states::{Command, Part, PartReply, command};
 
 /// The object of a command: its name under `command`, and its arguments under the names that they have in the body of a
 /// request. A merge has its architectures alone, and a report the number of its bytes.
@@ -212,7 +212,14 @@ fn value_of_priority(alloc: Global, given: &command::BuildPriority) -> Result<Va
 fn value_of_merge(alloc: Global, given: &command::Merge) -> Result<Value, AllocError>
     ensures { IfOk result (λ value. view value ≡ value_of_command (Merge given.now)) }
 {
-    let parts = Value::Array(values_of_parts(alloc, given.parts.as_slice())?);
+    merge_value(alloc, values_of_parts(alloc, given.parts.as_slice())?)
+}
+
+/// The object of a merge with these objects of its parts.
+fn merge_value(alloc: Global, parts: Vec<Value>) -> Result<Value, AllocError>
+    ensures { IfOk result (λ value. view value ≡ merge_value (items_of (map view parts.items))) }
+{
+    let parts = Value::Array(parts);
     json!(in alloc; {"command": "merge", "parts": parts})
 }
 
@@ -230,7 +237,25 @@ fn values_of_parts(alloc: Global, parts: &[Part]) -> Result<Vec<Value>, AllocErr
 fn value_of_part(alloc: Global, part: &Part) -> Result<Value, AllocError>
     ensures { IfOk result (λ value. view value ≡ value_of_part part.now) }
 {
-    json!(in alloc; {"arch": part.arch.as_str()})
+    value_of_arch(alloc, &part.arch)
+}
+
+/// The object of a part of a merge: its architecture.
+fn value_of_arch(alloc: Global, arch: &Text) -> Result<Value, AllocError>
+    ensures { IfOk result (λ value. view value ≡ value_of_arch arch.now) }
+{
+    json!(in alloc; {"arch": arch.as_str()})
+}
+
+/// The object of a merge that was accepted, by the replies to its parts: it has their architectures.
+pub(crate) fn value_of_merged(alloc: Global, replies: &[PartReply]) -> Result<Value, AllocError>
+    ensures value { IfOk result (λ value. view value ≡ value_of_merged replies.now) }
+{
+    let mut values = Vec::new(alloc);
+    for reply in replies {
+        values.push(value_of_arch(alloc, &reply.arch)?)?;
+    }
+    merge_value(alloc, values)
 }
 
 fn value_of_report(alloc: Global, given: &command::Report) -> Result<Value, AllocError>

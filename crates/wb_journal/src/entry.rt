@@ -2,15 +2,16 @@
 ghost use Rattle.std.specs.Prelude.{◌≡◌, ◌++◌, decimal, option_map, IfOk, OnOk};
 ghost use Rattle.std.specs.String.{string_bytes};
 ghost use Rattle.serde_json.specs.Written.{compact_text};
-ghost use Rattle.wb_journal.specs.Commands.{value_of_command};
-ghost use Rattle.wb_journal.specs.Entries.{accepted_of, entry_text, time_text};
+ghost use Rattle.serde_json.specs.Data.{Data};
+ghost use Rattle.wb_journal.specs.Commands.{value_of_command, value_of_merged};
+ghost use Rattle.wb_journal.specs.Entries.{accepted_of, entry_text, line_text, merge_text, parts_of, time_text};
 
-use crate::command::value_of_command;
+use crate::command::{value_of_command, value_of_merged};
 use itoa::Buffer;
 use serde_json::Value;
 use std::alloc::{AllocError, Global};
 use wb_api::reply_json;
-use wb_states::{Command, Reply};
+use wb_states::{Command, PartReply, Reply};
 
 /// The line of a journal for a command that was accepted at this time, with its reply: a JSON object (RFC 8259) without a
 /// space, and a line feed.
@@ -19,7 +20,6 @@ use wb_states::{Command, Reply};
 /// `command` the command's name and its arguments, and under `time` the time, `null` if the clock showed none. A merge has
 /// the architectures of its parts alone, and a report the number of its bytes. The only error is that there is no memory
 /// for the text. The keys are this project's own.
-#[tactic(auto, unfolding(crate::specs::Entries::entry_text))]
 pub fn entry_line(
     alloc: Global,
     time: Option<&str>,
@@ -29,12 +29,52 @@ pub fn entry_line(
     ensures value { IfOk result (λ line. string_bytes line
         ≡ entry_text (option_map (λ time. time.now) time.entry) command.now reply.now) }
 {
+    let object = command_json(alloc, command)?;
+    line_of(alloc, time, command.name(), object.as_str(), reply)
+}
+
+/// The line of a journal for a merge of lists that readers gave, which was accepted at this time with this reply: the line
+/// that [`entry_line`] makes of the merge as a command. The only error is that there is no memory for the text.
+pub fn merge_entry_line(
+    alloc: Global,
+    time: Option<&str>,
+    reply: &Reply,
+) -> Result<String, AllocError>
+    ensures value { IfOk result (λ line. string_bytes line
+        ≡ merge_text (option_map (λ time. time.now) time.entry) reply.now) }
+{
+    let object = merged_json(alloc, parts_of(reply))?;
+    line_of(alloc, time, "merge", object.as_str(), reply)
+}
+
+/// The parts of a merge to which this is the reply.
+fn parts_of(reply: &Reply) -> &[PartReply]
+    ensures { result.now ≡ parts_of reply.now }
+{
+    match reply {
+        Reply::Merged { parts, .. } => parts.as_slice(),
+        _ => &[],
+    }
+}
+
+/// The line for a command of this name, whose object has this text.
+#[tactic(auto, unfolding(crate::specs::Entries::line_text))]
+fn line_of(
+    alloc: Global,
+    time: Option<&str>,
+    name: &str,
+    object: &str,
+    reply: &Reply,
+) -> Result<String, AllocError>
+    ensures value { IfOk result (λ line. (data : Data) → object.now ≡ compact_text data → string_bytes line
+        ≡ line_text (option_map (λ time. time.now) time.entry) name.now data reply.now) }
+{
     let mut line = String::from_str(alloc, "{\"accepted\":")?;
     line.push_str(Buffer::new().format(accepted_of(reply)))?;
     line.push_str(",\"answer\":")?;
-    line.push_str(reply_json(alloc, command.name(), reply)?.as_str())?;
+    line.push_str(reply_json(alloc, name, reply)?.as_str())?;
     line.push_str(",\"command\":")?;
-    line.push_str(command_json(alloc, command)?.as_str())?;
+    line.push_str(object)?;
     line.push_str(",\"time\":")?;
     line.push_str(time_json(alloc, time)?.as_str())?;
     line.push_str("}\n")?;
@@ -60,6 +100,15 @@ fn command_json(alloc: Global, command: &Command) -> Result<String, AllocError>
     ensures { IfOk result (λ text. string_bytes text ≡ compact_text (value_of_command command.now)) }
 {
     let value = value_of_command(alloc, command)?;
+    value.to_string(alloc)
+}
+
+/// The object of a merge that was accepted, as text, by the replies to its parts.
+#[tactic(auto, using(crate::proofs::EntryLemmas::floats_of_commands))]
+fn merged_json(alloc: Global, replies: &[PartReply]) -> Result<String, AllocError>
+    ensures { IfOk result (λ text. string_bytes text ≡ compact_text (value_of_merged replies.now)) }
+{
+    let value = value_of_merged(alloc, replies)?;
     value.to_string(alloc)
 }
 

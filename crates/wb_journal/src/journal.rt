@@ -1,6 +1,8 @@
 //! The layer around an office that writes its journal.
 ghost use Rattle.std.specs.Prelude.{◌≡◌, Err};
 
+use std::io::BufRead;
+use wb_archive::{ArchList, MergeFrom};
 use wb_states::{Answer, Command, Query, Refusal, Reply};
 use wb_step::CarryOut;
 
@@ -9,6 +11,9 @@ use wb_step::CarryOut;
 pub trait Journal {
     /// Appends the entry of a command that the office accepted, and committed, with its reply.
     fn append(&mut self, command: &Command, reply: &Reply);
+
+    /// Appends the entry of a merge of lists that readers gave, which the office accepted, and committed, with its reply.
+    fn append_merge(&mut self, reply: &Reply);
 }
 
 /// An office that has each command that it accepts appended to a journal once it is committed. It promises what the office
@@ -64,4 +69,18 @@ impl<'a, O: CarryOut, J: Journal + Drop> CarryOut for Journaled<'a, O, J> {
     }
 
     ghost consistent = { λ journaled machine stands. O.CarryOut.consistent journaled.office.now machine stands };
+}
+
+impl<'a, O: MergeFrom, J: Journal + Drop> MergeFrom for Journaled<'a, O, J> {
+    fn merge_from<R: BufRead + Drop>(
+        &mut self,
+        sources: R,
+        parts: Vec<ArchList<R>>,
+    ) -> Result<Reply, Refusal> {
+        let answer = self.office.merge_from(sources, parts);
+        if let Ok(reply) = &answer {
+            self.journal.append_merge(reply);
+        }
+        answer
+    }
 }

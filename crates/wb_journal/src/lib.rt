@@ -7,5 +7,5 @@ mod entry;
 mod journal;
 pub mod laws;
 
-pub use entry::entry_line;
+pub use entry::{entry_line, merge_entry_line};
 pub use journal::{Journal, Journaled};
