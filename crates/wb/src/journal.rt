@@ -5,7 +5,7 @@ use std::alloc::Global;
 use std::fs::{File, OpenOptions};
 use std::io::{self, Read, Seek, SeekFrom, Write};
 use std::os::unix::fs::OpenOptionsExt;
-use wb_journal::{Journal, entry_line};
+use wb_journal::{Journal, entry_line, merge_entry_line};
 use wb_states::{Command, Reply};
 
 /// A journal in a file, which each entry is appended to: the file may be moved away at any time. An entry that cannot be written
@@ -33,10 +33,23 @@ impl<'a> FileJournal<'a> {
     }
 
     /// Appends a line for the command to the file.
-    fn write(&mut self, command: &Command, reply: &Reply) -> io::Result<()> {
+    fn write_command(&mut self, command: &Command, reply: &Reply) -> io::Result<()> {
         let alloc = self.rt.alloc();
         let time = time_now(self.rt, alloc);
         let line = entry_line(alloc, time.as_deref(), command, reply)?;
+        self.write(line.as_str())
+    }
+
+    /// Appends a line for a merge to the file.
+    fn write_merge(&mut self, reply: &Reply) -> io::Result<()> {
+        let alloc = self.rt.alloc();
+        let time = time_now(self.rt, alloc);
+        let line = merge_entry_line(alloc, time.as_deref(), reply)?;
+        self.write(line.as_str())
+    }
+
+    /// Appends a line to the file.
+    fn write(&mut self, line: &str) -> io::Result<()> {
         let mut how = OpenOptions::new();
         how.append(true).create(true).mode(0o640);
         let mut file = how.open(self.rt, self.file)?;
@@ -47,6 +60,14 @@ impl<'a> FileJournal<'a> {
         file.write_all(line.as_bytes())?;
         self.is_cut = false;
         Ok(())
+    }
+
+    /// Says what became of an entry, where that is news.
+    fn report(&mut self, written: io::Result<()>) {
+        match written {
+            Ok(()) => self.report_written(),
+            Err(error) => self.report_lost(error),
+        }
     }
 
     /// Says that the journal is written again, if entries were lost.
@@ -74,10 +95,13 @@ impl<'a> FileJournal<'a> {
 
 impl<'a> Journal for FileJournal<'a> {
     fn append(&mut self, command: &Command, reply: &Reply) {
-        match self.write(command, reply) {
-            Ok(()) => self.report_written(),
-            Err(error) => self.report_lost(error),
-        }
+        let written = self.write_command(command, reply);
+        self.report(written);
+    }
+
+    fn append_merge(&mut self, reply: &Reply) {
+        let written = self.write_merge(reply);
+        self.report(written);
     }
 }
 

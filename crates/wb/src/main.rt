@@ -5,77 +5,31 @@ mod asked;
 mod connection;
 mod files;
 mod journal;
+mod lists;
 mod memory;
 mod progress;
 mod serve;
 mod store;
 
 use journal::FileJournal;
-use progress::{is_watched, report_reading};
+use lists::FileLists;
 use sqlite::Alter;
-use std::alloc::{AllocError, Global};
-use std::io::{self, BufReader, Read};
+use std::alloc::Global;
+use std::env;
+use std::io::{self, BufReader};
 use std::net::TcpListener;
 use std::process::ExitCode;
-use std::rt::{Env, Files};
-use std::{env, fs};
+use std::rt::Env;
 use wb_api::line_fault_json;
-use wb_daemon::{Cause, Lists, Message, run_lines, run_words, status};
+use wb_archive::MergeFrom;
+use wb_daemon::{Cause, Message, run_lines, run_words, status};
 use wb_journal::Journaled;
 use wb_office::Office;
-use wb_step::CarryOut;
 use wb_streams::{WatchedReader, WatchedWriter};
 use wb_words::{HELP, Start, start_of};
 
 /// The program and the kit that it is proved with, for `wb --version`.
 const VERSION: &str = "wb 0.1.0, proved with rattle-kit-13f logic dac8208d650f15bf";
-
-/// The lists and reports that stand in files, whose names are paths from the working directory. Messages go to standard
-/// error.
-struct FileLists<'a, F> {
-    rt: &'a F,
-    /// Whether a person may read the messages.
-    is_watched: bool,
-}
-
-impl<'a, F> Drop for FileLists<'a, F> {
-    fn drop(self) {
-        let FileLists {
-            rt: _,
-            is_watched: _,
-        } = self;
-    }
-}
-
-impl<'a, F: Files + Eprint> Lists for FileLists<'a, F> {
-    type List = F::File;
-
-    fn open(&mut self, _alloc: Global, name: &str) -> Result<Option<F::File>, AllocError> {
-        match fs::open(self.rt, name) {
-            Ok(list) => {
-                if self.is_watched {
-                    report_reading(self.rt, name);
-                }
-                Ok(Some(list))
-            }
-            Err(error) => {
-                self.report(Message::ListFailed {
-                    name,
-                    error: &error,
-                });
-                Ok(None)
-            }
-        }
-    }
-
-    fn read(list: &mut F::File, room: &mut [u8]) -> io::Result<usize> {
-        list.read(room)
-    }
-
-    fn report(&mut self, message: Message<'_>) {
-        say(self.rt, message);
-    }
-}
 
 /// Prints a message on standard error; one that cannot be printed is dropped.
 fn say(rt: &impl Eprint, message: Message<'_>) {
@@ -219,27 +173,21 @@ fn texts_of<'a>(alloc: Global, arguments: &'a [String]) -> Option<Vec<&'a str>> 
 }
 
 /// Answers the lines of standard input on standard output.
-fn run<O: CarryOut>(rt: &HostRuntime, office: &mut O) -> u8 {
+fn run<O: MergeFrom>(rt: &HostRuntime, office: &mut O) -> u8 {
     let Ok(buffered) = BufReader::new(rt.alloc(), rt.reader()) else {
         say(rt, Message::Stopped { cause: Cause::Room });
         return status::STOPPED;
     };
     let mut reader = WatchedReader::new(buffered);
     let mut writer = WatchedWriter::new(io::writer(rt));
-    let mut lists = FileLists {
-        rt,
-        is_watched: is_watched(rt),
-    };
+    let mut lists = FileLists::new(rt);
     run_lines(rt.alloc(), office, &mut reader, &mut writer, &mut lists)
 }
 
 /// Answers a single command on standard output.
-pub(crate) fn answer<O: CarryOut>(rt: &HostRuntime, office: &mut O, words: &[&str]) -> u8 {
+pub(crate) fn answer<O: MergeFrom>(rt: &HostRuntime, office: &mut O, words: &[&str]) -> u8 {
     let mut writer = WatchedWriter::new(io::writer(rt));
-    let mut lists = FileLists {
-        rt,
-        is_watched: is_watched(rt),
-    };
+    let mut lists = FileLists::new(rt);
     run_words(rt.alloc(), office, words, &mut writer, &mut lists)
 }
 

@@ -18,21 +18,21 @@ pub(crate) fn is_watched(rt: &HostRuntime) -> bool {
 /// Says that the file of the records is being opened, if that takes seconds and a person may read it.
 pub(crate) fn report_opening(rt: &HostRuntime, file: &str) {
     if is_watched(rt) {
-        report_file(rt, "opening", file, SLOW_STORE);
+        let _ = report_file(rt, "opening", file, SLOW_STORE);
     }
 }
 
-/// Says that this list or report is being read, if it is long.
-pub(crate) fn report_reading(rt: &(impl Files + Eprint), name: &str) {
-    report_file(rt, "reading", name, SLOW_LIST);
+/// Says that this list or report is being read, if it is long, and answers how many bytes it has then.
+pub(crate) fn size_of_long(rt: &(impl Files + Eprint), name: &str) -> Option<u64> {
+    report_file(rt, "reading", name, SLOW_LIST)
 }
 
-/// Says what is done with the file of this name, if it has at least so many bytes.
-fn report_file(rt: &(impl Files + Eprint), doing: &str, name: &str, least: u64) {
-    if let Ok(found) = fs::metadata(rt, name) {
-        let size = found.len();
-        if size >= least {
-            let _ = eprintln!(rt; "wb: {doing} {name}, {} MB", size / 1_000_000);
-        }
+/// Says what is done with the file of this name, if it has at least so many bytes, and answers how many it has then.
+fn report_file(rt: &(impl Files + Eprint), doing: &str, name: &str, least: u64) -> Option<u64> {
+    let size = fs::metadata(rt, name).ok()?.len();
+    if size < least {
+        return None;
     }
+    let _ = eprintln!(rt; "wb: {doing} {name}, {} MB", size / 1_000_000);
+    Some(size)
 }

@@ -1,14 +1,17 @@
 -- Merges of lists that readers give: what they come to, by the bytes that the readers have; and that they leave the office as the step of a command does.
 use Rattle.std.proofs.Common.{◌≡◌, ◌⊎◌, inl, inr, ℕ, ◌+◌, Bool, true, false, not, ◌||◌, cond, List, [], ◌∷◌, Option, None, Some, Result, Ok, Err, refl, sym, ap, subst, ◌∙◌}
+use Rattle.std.proofs.lemmas.Bool.{false≢true}
 use Rattle.std.specs.Prelude.{bytes_eq, nat_le, is_ok, is_none, IsOk}
 use Rattle.std.specs.FinMap as finite
 use Rattle.std.specs.List.{AllByRecursion, AllZip, list_any}
 use Rattle.std.specs.Result.{result_err}
+use Rattle.std.specs.Str.{chars, is_utf8}
 use Rattle.deb_control.specs.declared.fault.ControlFaultKind.TheVariants.{NoColon, Read}
 use Rattle.deb_control.specs.Feed.{MayStandAt}
 use Rattle.deb_control.specs.FeedState.{FeedState, fresh}
 use Rattle.deb_control.specs.Source.{MayBeLeft}
-use Rattle.deb_control.specs.Lines.{lines_of, paragraphs_in}
+use Rattle.deb_control.specs.Fields.{fault_of, form_fault, has_colon, line_fault, reading_of}
+use Rattle.deb_control.specs.Lines.{body_of, is_separator, lines_of, paragraphs_in}
 use Rattle.deb_control.specs.Paragraphs.{begun}
 use Rattle.deb_relations.specs.declared.arch.ArchWords.{ArchWords}
 use Rattle.deb_text.specs.Options.{first_some}
@@ -163,13 +166,13 @@ names-refused remaining sources lists machine refusal is =
 
 -- the bytes of a feed at which it may begin
 feed-bytes : (known : Option (List ℕ)) (feed : FeedState) (text : List ℕ) → feed ≡ fresh known → MayBeginAt MayStandAt feed text
-    → (bytes : List ℕ) × (MayBeLeft known bytes × (begun (paragraphs_in (lines_of text)) ≡ begun (paragraphs_in (lines_of bytes))))
+    → (bytes : List ℕ) × MayBeLeft known bytes × (begun (paragraphs_in (lines_of text)) ≡ begun (paragraphs_in (lines_of bytes)))
 feed-bytes known feed text is begins = subst (λ (f : FeedState). MayBeginAt MayStandAt f text) is begins
 
 -- a listing that was given
 read-as : (listing given : Result ArchiveListing Refusal) → IsGiven IsFeedBreak listing given → IsReadAs listing given
 read-as listing given (inl same) = inl same
-read-as listing given (inr (reader, bad, broken, is)) =
+read-as listing given (inr (reader, (bad, (broken, is)))) =
     inr (bad.which, (broken.broke.paragraph, is
     ∙ (λ i. Err (BadListing bad.which (broken.is i).paragraph (broken.is i).fault))
     ∙ (λ i. Err (BadListing bad.which broken.broke.paragraph (Control (broken.breaks.kind i))))))
@@ -192,12 +195,12 @@ module _ {R : Type 0} (remaining : R → Option (List ℕ)) (machine : Machine) 
       let bytes = feed-bytes (remaining list.packages) feed.packages of.packages are.0.packages begin.0.begins in
       let same : of.arch ≡ list.arch = sym begin.0.arch ∙ are.0.arch in
       let part : Part = record { arch = list.arch; packages = bytes.0 } in
-      let listing = listing-alike machine text known of part alike same bytes.1.1 in
+      let listing = listing-alike machine text known of part alike same bytes.2 in
       let rest = feeds-parts lists feeds found (records_with records list.arch done.0) last replies are.1 begin.1
           (subst (λ (arch : List ℕ). ArePartsDone (λ of. IsGiven IsFeedBreak (part_listing machine text of)) found (records_with records arch done.0) replies last) same done.1.1.1) in (
         part ∷ rest.0,
         (
-          (record { arch = refl; packages = bytes.1.0 }, rest.1.0),
+          (record { arch = refl; packages = bytes.1 }, rest.1.0),
           (
             done.0,
             (
@@ -216,9 +219,9 @@ pub feeds-merge : {R : Type 0} (remaining : R → Option (List ℕ)) (machine : 
 feeds-merge remaining machine sources lists feeds last replies o names are lists_done is =
     let bytes = feed-bytes (remaining sources) (fresh (remaining sources)) lists_done.text refl lists_done.begins in
     let end = lists_done.merged.done in
-    let found = feeds-parts remaining machine lists_done.text bytes.0 bytes.1.1 lists feeds lists_done.merged.given machine.records end.last replies are lists_done.merged.are end.done in record {
+    let found = feeds-parts remaining machine lists_done.text bytes.0 bytes.2 lists feeds lists_done.merged.given machine.records end.last replies are lists_done.merged.are end.done in record {
       text = bytes.0;
-      is = bytes.1.0;
+      is = bytes.1;
       parts = found.0;
       are = found.1.0;
       answers = inr (
@@ -236,7 +239,7 @@ feeds-unread remaining machine (list ∷ lists) [] are = absurd are
 feeds-unread remaining machine (list ∷ lists) (feed ∷ feeds) are = (
   record {
     words = are.0.words ∙ ap (finite.get machine.archs) (sym are.0.arch);
-    unread = subst (IsUnread MayStandAt) (sym are.0.packages) (λ place here. (here.0, here.1.1));
+    unread = subst (IsUnread MayStandAt) (sym are.0.packages) (λ place here. (here.0, here.2));
   },
   feeds-unread remaining machine lists feeds are.1,
 )
@@ -245,7 +248,7 @@ feeds-unread remaining machine (list ∷ lists) (feed ∷ feeds) are = (
 
 -- a list that could not be read on is refused
 unread-binaries : (arch : ArchWords) → (refusal : Refusal) × (kept_binaries arch unread_list ≡ Err refusal)
-unfolding kept_binaries unread_list paragraphs_in
+unfolding kept_binaries unread_list is_utf8 chars lib.Utf8.encode has_colon form_fault line_fault fault_of reading_of body_of is_separator paragraphs_in
 unread-binaries arch = (BadListing Packages 1 (Control NoColon), refl)
 
 kept-refused : (arch : ArchWords) (sources : Result (List SourceRow) Refusal) (binaries : Result (List BinaryRow) Refusal) (refusal : Refusal) → binaries ≡ Err refusal
@@ -307,7 +310,7 @@ module _ (machine : Machine) (text : List ℕ) where
   stand-in [] records last [] done = record { others = []; stand = tt; last_is = done; alike = tt }
   stand-in [] records last (reply ∷ replies) done = absurd done
   stand-in (part ∷ parts) records last [] done = absurd done
-  stand-in (part ∷ parts) records last (reply ∷ replies) (listing, inl is, told, later) =
+  stand-in (part ∷ parts) records last (reply ∷ replies) (listing, (inl is, (told, later))) =
       let rest = stand-in parts (records_with records part.arch listing) last replies later in record {
         others = part ∷ rest.others;
         stand = (record { arch = refl; packages = inl refl }, rest.stand);
@@ -317,7 +320,7 @@ module _ (machine : Machine) (text : List ℕ) where
           subst (λ (l : Result ArchiveListing Refusal). AllZip AreAlike replies (part_replies machine text rest.others (records_with records part.arch l))) is rest.alike,
         );
       }
-  stand-in (part ∷ parts) records last (reply ∷ replies) (listing, inr (which, (paragraph, is)), told, later) =
+  stand-in (part ∷ parts) records last (reply ∷ replies) (listing, (inr (which, (paragraph, is)), (told, later))) =
       let rest = stand-in parts (records_with records part.arch listing) last replies later in
       let bad = unread-refused machine text part.arch in
       let same : records_with records part.arch listing ≡ records_with records part.arch (part_listing machine text (record { arch = part.arch; packages = unread_list })) =
@@ -361,7 +364,7 @@ texts-step text parts machine o (inl (refusal, (refused, is))) = record {
   others = parts;
   stand = themselves parts;
   left = ap (λ (o : Outcome). o.1) is ∙ sym (ap (λ (o : Outcome). o.1) (step-text machine (Merge text parts) refusal refused));
-  accepted = λ ok. absurd (subst IsOk (ap (λ (o : Outcome). o.0) is) ok);
+  accepted = λ ok. absurd (false≢true (subst IsOk (ap (λ (o : Outcome). o.0) is) ok));
 }
   where
     themselves : (parts : List Part) → AllZip StandsForPart parts parts
@@ -388,12 +391,12 @@ texts-step text parts machine o (inr (names, comes)) = record { others = s.other
         let other = is-some (parts_refusal machine text s.others) (sym alike ∙ ap is_none why) in
         let stepped = step-refused machine (Merge text s.others) other.0 (first (Some other.0) is_full other.1 full) in
         let told : o ≡ (Err refusal, machine) = comes.is ∙ (λ i. outcome_by (why i) (full i) machine comes.replies comes.last) in
-        (ap (λ (o : Outcome). o.1) told ∙ sym (ap (λ (o : Outcome). o.1) stepped), λ ok. absurd (subst IsOk (ap (λ (o : Outcome). o.0) told) ok))
+        (ap (λ (o : Outcome). o.1) told ∙ sym (ap (λ (o : Outcome). o.1) stepped), λ ok. absurd (false≢true (subst IsOk (ap (λ (o : Outcome). o.0) told) ok)))
     by None true why full =
         let none = is-none (parts_refusal machine text s.others) (sym alike ∙ ap is_none why) in
         let stepped = step-refused machine (Merge text s.others) Spent (first None true none full) in
         let told : o ≡ (Err Spent, machine) = comes.is ∙ (λ i. outcome_by (why i) (full i) machine comes.replies comes.last) in
-        (ap (λ (o : Outcome). o.1) told ∙ sym (ap (λ (o : Outcome). o.1) stepped), λ ok. absurd (subst IsOk (ap (λ (o : Outcome). o.0) told) ok))
+        (ap (λ (o : Outcome). o.1) told ∙ sym (ap (λ (o : Outcome). o.1) stepped), λ ok. absurd (false≢true (subst IsOk (ap (λ (o : Outcome). o.0) told) ok)))
     by None false why full =
         let none = is-none (parts_refusal machine text s.others) (sym alike ∙ ap is_none why) in
         let stepped = merge-accepted machine text s.others (first None false none full) in
@@ -401,7 +404,7 @@ texts-step text parts machine o (inr (names, comes)) = record { others = s.other
             comes.is ∙ (λ i. outcome_by (why i) (full i) machine comes.replies comes.last) in
         (
           ap (λ (o : Outcome). o.1) told ∙ ap (merged_office machine) s.last_is ∙ sym (ap (λ (o : Outcome). o.1) stepped),
-          λ ok. subst IsOk (sym (ap (λ (o : Outcome). o.0) stepped)) tt,
+          λ ok. subst IsOk (sym (ap (λ (o : Outcome). o.0) stepped)) refl,
         )
 
     both : (o.1 ≡ (step machine (Merge text s.others)).1) × (IsOk o.0 → IsOk (step machine (Merge text s.others)).0)
@@ -411,7 +414,7 @@ texts-step text parts machine o (inr (names, comes)) = record { others = s.other
 
 module _ (machine : Machine) (text : List ℕ) where
   -- parts of which no list could be read on
-  refused-parts : List Part → List PartReply
+  abbrev refused-parts : List Part → List PartReply
   refused-parts [] = []
   refused-parts (part ∷ parts) = record { arch = part.arch; end = end.Refused (BadListing Packages 1 (Control Read)) } ∷ refused-parts parts
 

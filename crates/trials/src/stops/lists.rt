@@ -2,7 +2,7 @@
 
 use std::alloc::{AllocError, Global};
 use std::fs;
-use std::io::{self, Read};
+use std::io::BufReader;
 use std::rt::Files;
 use wb_daemon::Lists;
 
@@ -18,13 +18,16 @@ impl<'a, F> Drop for FileLists<'a, F> {
 }
 
 impl<'a, F: Files> Lists for FileLists<'a, F> {
-    type List = F::File;
+    type List = BufReader<F::File>;
 
-    fn open(&mut self, _alloc: Global, name: &str) -> Result<Option<F::File>, AllocError> {
-        Ok(fs::open(self.rt, name).ok())
-    }
-
-    fn read(list: &mut F::File, room: &mut [u8]) -> io::Result<usize> {
-        list.read(room)
+    fn open(
+        &mut self,
+        alloc: Global,
+        name: &str,
+    ) -> Result<Option<BufReader<F::File>>, AllocError> {
+        let Ok(file) = fs::open(self.rt, name) else {
+            return Ok(None);
+        };
+        Ok(Some(BufReader::new(alloc, file).ok().ok_or(AllocError)?))
     }
 }

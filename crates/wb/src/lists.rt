@@ -1,0 +1,135 @@
+//! The lists and reports that stand in files, or come from pipes.
+
+use crate::progress::{is_watched, size_of_long};
+use crate::say;
+use std::alloc::{AllocError, Global};
+use std::fs;
+use std::io::{self, BufReader, Read};
+use std::rt::Files;
+use wb_daemon::{Lists, Message};
+
+/// After how many bytes of a long list it is said again how far it is read.
+const REPORTED_BYTES: u64 = 16_000_000;
+
+/// The lists and reports whose names are paths from the working directory. Messages go to standard error.
+pub(crate) struct FileLists<'a, F> {
+    rt: &'a F,
+    /// Whether a person may read the messages.
+    is_watched: bool,
+}
+
+impl<'a> FileLists<'a, HostRuntime> {
+    /// The lists that this program reads.
+    pub(crate) fn new(rt: &'a HostRuntime) -> Self {
+        FileLists {
+            rt,
+            is_watched: is_watched(rt),
+        }
+    }
+}
+
+impl<'a, F> Drop for FileLists<'a, F> {
+    fn drop(self) {
+        let FileLists {
+            rt: _,
+            is_watched: _,
+        } = self;
+    }
+}
+
+impl<'a, F: Files + Eprint> Lists for FileLists<'a, F> {
+    type List = BufReader<FileList<'a, F>>;
+
+    fn open(
+        &mut self,
+        alloc: Global,
+        name: &str,
+    ) -> Result<Option<BufReader<FileList<'a, F>>>, AllocError> {
+        match fs::open(self.rt, name) {
+            Ok(file) => {
+                let size = if self.is_watched {
+                    size_of_long(self.rt, name)
+                } else {
+                    None
+                };
+                let list = FileList {
+                    rt: self.rt,
+                    name: String::from_str(alloc, name)?,
+                    file,
+                    size,
+                    read: 0,
+                    reported: 0,
+                };
+                Ok(Some(BufReader::new(alloc, list).ok().ok_or(AllocError)?))
+            }
+            Err(error) => {
+                self.report(Message::ListFailed {
+                    name,
+                    error: &error,
+                });
+                Ok(None)
+            }
+        }
+    }
+
+    fn report(&mut self, message: Message<'_>) {
+        say(self.rt, message);
+    }
+}
+
+/// A list or a report that was opened. Why a read of it failed is said on standard error, since the answer says only that one did; and
+/// how far a long one is read, if a person may read that.
+pub(crate) struct FileList<'a, F: Files> {
+    rt: &'a F,
+    name: String,
+    file: F::File,
+    /// How many bytes it has, if it is long and how far it is read is to be said.
+    size: Option<u64>,
+    /// How many bytes were read.
+    read: u64,
+    /// How many bytes were read when it was said last how far it is.
+    reported: u64,
+}
+
+impl<'a, F: Files + Eprint> FileList<'a, F> {
+    /// Counts bytes that were read, and says how far the list is read, if it is time.
+    fn count(&mut self, bytes: u64) {
+        self.read = self.read.saturating_add(bytes);
+        if let Some(size) = self.size {
+            if self.read - self.reported >= REPORTED_BYTES {
+                self.reported = self.read;
+                let _ = eprintln!(self.rt;
+                    "wb: reading {}, {} of {} MB",
+                    self.name.as_str(), self.read / 1_000_000, size / 1_000_000
+                );
+            }
+        }
+    }
+}
+
+impl<'a, F: Files> Drop for FileList<'a, F> {
+    fn drop(self) {
+        let FileList { rt: _, name: _, file: _, size: _, read: _, reported: _ } = self;
+    }
+}
+
+impl<'a, F: Files + Eprint> Read for FileList<'a, F> {
+    fn read(&mut self, room: &mut [u8]) -> io::Result<usize> {
+        match self.file.read(room) {
+            Ok(count) => {
+                self.count(count as u64);
+                Ok(count)
+            }
+            Err(error) => {
+                say(
+                    self.rt,
+                    Message::ListFailed {
+                        name: self.name.as_str(),
+                        error: &error,
+                    },
+                );
+                Err(error)
+            }
+        }
+    }
+}
