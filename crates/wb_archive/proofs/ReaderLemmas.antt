@@ -410,6 +410,46 @@ texts-step text parts machine o (inr (names, comes)) = record { others = s.other
     both : (o.1 ≡ (step machine (Merge text s.others)).1) × (IsOk o.0 → IsOk (step machine (Merge text s.others)).0)
     both = by (refusal_by comes.replies) (nat_le count_limit machine.accepted) refl refl
 
+-- what became of parts of which each list was read
+parts-read : (machine : Machine) (text : List ℕ) (parts : List Part) (records last : Records) (replies : List PartReply)
+    → ArePartsDone (λ of given. given ≡ part_listing machine text of) parts records replies last
+    → (replies ≡ part_replies machine text parts records) × (last ≡ records_after machine text parts records)
+parts-read machine text [] records last [] done = (refl, done)
+parts-read machine text [] records last (reply ∷ replies) done = absurd done
+parts-read machine text (part ∷ parts) records last [] done = absurd done
+parts-read machine text (part ∷ parts) records last (reply ∷ replies) (listing, (is, (told, later))) =
+    let rest = parts-read machine text parts (records_with records part.arch listing) last replies later in (
+      (λ i. told i ∷ rest.0 i)
+          ∙ (λ i. record { arch = part.arch; end = end_with records part.arch (is i) } ∷ part_replies machine text parts (records_with records part.arch (is i))),
+      rest.1 ∙ (λ i. records_after machine text parts (records_with records part.arch (is i))),
+    )
+
+-- a merge of lists that were read is the step
+pub read-step : (text : List ℕ) (parts : List Part) (machine : Machine) (replies : List PartReply) (last : Records) → text_refusal (Merge text parts) ≡ None
+    → ArePartsDone (λ of given. given ≡ part_listing machine text of) parts machine.records replies last → merge_outcome machine replies last ≡ step machine (Merge text parts)
+read-step text parts machine replies last names done =
+    (λ i. merge_outcome machine (both.0 i) (both.1 i))
+    ∙ (λ i. outcome_by (refusal_by-parts machine text parts machine.records i) (nat_le count_limit machine.accepted) machine all after)
+    ∙ by (parts_refusal machine text parts) (nat_le count_limit machine.accepted) refl refl
+  where
+    both : (replies ≡ part_replies machine text parts machine.records) × (last ≡ records_after machine text parts machine.records)
+    both = parts-read machine text parts machine.records last replies done
+
+    all : List PartReply
+    all = part_replies machine text parts machine.records
+
+    after : Records
+    after = records_after machine text parts machine.records
+
+    by : (refused : Option Refusal) (is_full : Bool) → parts_refusal machine text parts ≡ refused → nat_le count_limit machine.accepted ≡ is_full
+        → outcome_by (parts_refusal machine text parts) (nat_le count_limit machine.accepted) machine all after ≡ step machine (Merge text parts)
+    by (Some refusal) is_full why full =
+        (λ i. outcome_by (why i) (full i) machine all after) ∙ sym (step-refused machine (Merge text parts) refusal (merge-first machine text parts names (Some refusal) is_full why full))
+    by None true why full =
+        (λ i. outcome_by (why i) (full i) machine all after) ∙ sym (step-refused machine (Merge text parts) Spent (merge-first machine text parts names None true why full))
+    by None false why full =
+        (λ i. outcome_by (why i) (full i) machine all after) ∙ sym (merge-accepted machine text parts (merge-first machine text parts names None false why full))
+
 -- ---- an office that a merge leaves as it was
 
 module _ (machine : Machine) (text : List ℕ) where

@@ -1,5 +1,5 @@
 //! Laws of a merge of an archive's lists, each on a function that does nothing.
-ghost use Rattle.std.specs.Prelude.{◌≡◌, ℕ, List, Option, Some};
+ghost use Rattle.std.specs.Prelude.{◌≡◌, ℕ, List, Option, None, Some};
 ghost use Rattle.std.specs.List.{AllByRecursion, AllZip};
 ghost use Rattle.deb_control.specs.declared.fault.ControlFault.{ControlFault};
 ghost use Rattle.deb_control.specs.Feed.{MayStandAt};
@@ -8,10 +8,14 @@ ghost use Rattle.deb_control.specs.Lines.{lines_of, paragraphs_in};
 ghost use Rattle.deb_control.specs.Paragraphs.{ReaderState, begun};
 ghost use Rattle.wb_states.specs.declared.command.Part.{Part};
 ghost use Rattle.wb_states.specs.declared.reply.PartReply.{PartReply};
+ghost use Rattle.wb_states.specs.Forms.{Merge};
 ghost use Rattle.wb_states.specs.Machine.{Machine};
 ghost use Rattle.wb_merge.specs.Merged.{Records};
+ghost use Rattle.wb_step.specs.Checks.{text_refusal};
 ghost use Rattle.wb_step.specs.Parts.{part_listing, part_replies, records_after};
+ghost use Rattle.wb_step.specs.Step.{Outcome, step};
 ghost use Rattle.wb_archive.specs.Merges.{ArePartsDone, BeginsAt, IsGiven, IsMergeDone, IsMergeOfLists, IsPartOf, IsPartUnread, IsUnread};
+ghost use Rattle.wb_archive.specs.Readers.{IsAsStep, IsMergeOfTexts, merge_outcome};
 ghost use Rattle.wb_archive.specs.declared.merge.PartList.{PartList};
 
 use crate::ReadParagraphs;
@@ -52,4 +56,20 @@ pub fn texts_in_memory_are_known()
 pub fn feeds_begin_at_their_bytes()
     ensures unread { (bytes : Option (List ℕ)) → IsUnread MayStandAt (fresh bytes) }
     ensures begins { (text : List ℕ) → BeginsAt MayStandAt (fresh (Some text)) text }
+{}
+
+/// A merge of what readers give leaves the office as the step of a command does, the merge of the same lists, with a list that is
+/// refused in place of each that could not be read on; and it is accepted only if that is.
+pub fn merges_of_readers_are_steps()
+    ensures value { (text : List ℕ) (parts : List Part) (machine : Machine) (outcome : Outcome)
+        → IsMergeOfTexts text parts machine outcome → IsAsStep text parts machine outcome }
+{}
+
+/// If all lists could be read, a merge of what readers give is answered as the step answers the merge of the bytes that they gave, and
+/// leaves the office as it does.
+pub fn merges_of_lists_that_were_read_are_the_step()
+    ensures value { (text : List ℕ) (parts : List Part) (machine : Machine) (replies : List PartReply) (last : Records)
+        → text_refusal (Merge text parts) ≡ None
+        → ArePartsDone (λ of given. given ≡ part_listing machine text of) parts machine.records replies last
+        → merge_outcome machine replies last ≡ step machine (Merge text parts) }
 {}
