@@ -173,9 +173,15 @@ feed-bytes known feed text is begins = subst (λ (f : FeedState). MayBeginAt May
 read-as : (listing given : Result ArchiveListing Refusal) → IsGiven IsFeedBreak listing given → IsReadAs listing given
 read-as listing given (inl same) = inl same
 read-as listing given (inr (reader, (bad, (broken, is)))) =
-    inr (bad.which, (broken.broke.paragraph, is
-    ∙ (λ i. Err (BadListing bad.which (broken.is i).paragraph (broken.is i).fault))
-    ∙ (λ i. Err (BadListing bad.which broken.broke.paragraph (Control (broken.breaks.kind i))))))
+    inr (
+      bad.which,
+      (
+        broken.broke.paragraph,
+        is
+            ∙ (λ i. Err (BadListing bad.which (broken.is i).paragraph (broken.is i).fault))
+            ∙ (λ i. Err (BadListing bad.which broken.broke.paragraph (Control (broken.breaks.kind i)))),
+      ),
+    )
 
 module _ {R : Type 0} (remaining : R → Option (List ℕ)) (machine : Machine) (text known : List ℕ)
     (alike : begun (paragraphs_in (lines_of text)) ≡ begun (paragraphs_in (lines_of known))) where
@@ -197,7 +203,7 @@ module _ {R : Type 0} (remaining : R → Option (List ℕ)) (machine : Machine) 
       let part : Part = record { arch = list.arch; packages = bytes.0 } in
       let listing = listing-alike machine text known of part alike same bytes.2 in
       let rest = feeds-parts lists feeds found (records_with records list.arch done.0) last replies are.1 begin.1
-          (subst (λ (arch : List ℕ). ArePartsDone (λ of. IsGiven IsFeedBreak (part_listing machine text of)) found (records_with records arch done.0) replies last) same done.1.1.1) in (
+      (subst (λ (arch : List ℕ). ArePartsDone (λ of. IsGiven IsFeedBreak (part_listing machine text of)) found (records_with records arch done.0) replies last) same done.1.1.1) in (
         part ∷ rest.0,
         (
           (record { arch = refl; packages = bytes.1 }, rest.1.0),
@@ -324,7 +330,7 @@ module _ (machine : Machine) (text : List ℕ) where
       let rest = stand-in parts (records_with records part.arch listing) last replies later in
       let bad = unread-refused machine text part.arch in
       let same : records_with records part.arch listing ≡ records_with records part.arch (part_listing machine text (record { arch = part.arch; packages = unread_list })) =
-          ap (records_with records part.arch) is ∙ sym (ap (records_with records part.arch) bad.1) in record {
+      ap (records_with records part.arch) is ∙ sym (ap (records_with records part.arch) bad.1) in record {
         others = record { arch = part.arch; packages = unread_list } ∷ rest.others;
         stand = (record { arch = refl; packages = inr refl }, rest.stand);
         last_is = rest.last_is ∙ ap (records_after machine text rest.others) same;
@@ -401,8 +407,7 @@ texts-step text parts machine o (inr (names, comes)) = record { others = s.other
         let none = is-none (parts_refusal machine text s.others) (sym alike ∙ ap is_none why) in
         let stepped = merge-accepted machine text s.others (first None false none full) in
         let told : o ≡ (Ok (Merged (machine.accepted + 1) comes.replies), merged_office machine comes.last) =
-            comes.is ∙ (λ i. outcome_by (why i) (full i) machine comes.replies comes.last) in
-        (
+        comes.is ∙ (λ i. outcome_by (why i) (full i) machine comes.replies comes.last) in (
           ap (λ (o : Outcome). o.1) told ∙ ap (merged_office machine) s.last_is ∙ sym (ap (λ (o : Outcome). o.1) stepped),
           λ ok. subst IsOk (sym (ap (λ (o : Outcome). o.0) stepped)) refl,
         )
@@ -479,10 +484,13 @@ module _ (machine : Machine) (text : List ℕ) where
       by None is =
           let why = refused-by parts in (
             why.0,
-            inr (is, record {
-              replies = refused-parts parts;
-              last = machine.records;
-              done = parts-refused parts machine.records;
-              is = λ i. outcome_by (sym why.1 i) (nat_le count_limit machine.accepted) machine (refused-parts parts) machine.records;
-            }),
+            inr (
+              is,
+              record {
+                replies = refused-parts parts;
+                last = machine.records;
+                done = parts-refused parts machine.records;
+                is = λ i. outcome_by (sym why.1 i) (nat_le count_limit machine.accepted) machine (refused-parts parts) machine.records;
+              },
+            ),
           )
