@@ -1,5 +1,5 @@
-"""The program of crates/trials, which a test runs: a line on its standard input says what follows, `requests`, `messages` or
-`stops`.
+"""The program of crates/trials, which a test runs: a line on its standard input says what follows, `requests`, `messages`,
+`merges` or `stops`.
 
 From the environment: TRIALS is the program, that of crates/trials where it is not set, which is then built if need be.
 """
@@ -9,7 +9,7 @@ import sys
 from pathlib import Path
 
 ROOT = Path(__file__).resolve().parent.parent
-REQUESTS, MESSAGES, STOPS = "requests\n", "messages\n", "stops\n"
+REQUESTS, MESSAGES, MERGES, STOPS = "requests\n", "messages\n", "merges\n", "stops\n"
 
 
 def is_stale(program):

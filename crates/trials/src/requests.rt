@@ -8,13 +8,12 @@
 
 mod frames;
 mod opening;
-mod reader;
 mod writer;
 
+use crate::reader::CutReader;
 use anyhow::{Context, Result};
 use frames::Frame;
 use opening::MemoryOffice;
-use reader::CutReader;
 use std::alloc::Global;
 use std::io::{BufRead, Write};
 use wb_api::{Routes, Served, serve_one};
@@ -77,7 +76,11 @@ fn answered(
     request: &Frame,
 ) -> (Served, Vec<u8>) {
     let mut answer = CutWriter::new(alloc, request);
-    let mut reader = WatchedReader::new(CutReader::new(request));
+    let mut reader = WatchedReader::new(CutReader::new(
+        &request.bytes,
+        request.step,
+        request.reads,
+    ));
     let mut writer = WatchedWriter::new(&mut answer);
     let served = serve_one(alloc, routes, office, &mut reader, &mut writer);
     drop(writer);

@@ -16,12 +16,12 @@
 //! of the office that is found in them at the end. The last line of a trial is `end`. A run whose office is not opened ends the program.
 //! What is not synced at the end of a life is lost.
 
-mod disk;
+pub(crate) mod disk;
 mod lists;
 mod lives;
-mod rows;
-mod stage;
-mod work;
+pub(crate) mod rows;
+pub(crate) mod stage;
+pub(crate) mod work;
 
 use anyhow::Result;
 use disk::Images;

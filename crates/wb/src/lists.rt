@@ -100,7 +100,9 @@ impl<'a, F: Files + Eprint> FileList<'a, F> {
                 self.reported = self.read;
                 let _ = eprintln!(self.rt;
                     "wb: reading {}, {} of {} MB",
-                    self.name.as_str(), self.read / 1_000_000, size / 1_000_000
+                    self.name.as_str(),
+                    self.read / 1_000_000,
+                    size / 1_000_000
                 );
             }
         }
@@ -109,7 +111,14 @@ impl<'a, F: Files + Eprint> FileList<'a, F> {
 
 impl<'a, F: Files> Drop for FileList<'a, F> {
     fn drop(self) {
-        let FileList { rt: _, name: _, file: _, size: _, read: _, reported: _ } = self;
+        let FileList {
+            rt: _,
+            name: _,
+            file: _,
+            size: _,
+            read: _,
+            reported: _,
+        } = self;
     }
 }
 

@@ -66,8 +66,8 @@ fn line_of(
     object: &str,
     reply: &Reply,
 ) -> Result<String, AllocError>
-    ensures value { IfOk result (λ line. (data : Data) → object.now ≡ compact_text data → string_bytes line
-        ≡ line_text (option_map (λ time. time.now) time.entry) name.now data reply.now) }
+    ensures value { IfOk result (λ line. (value : Data) → object.now ≡ compact_text value → string_bytes line
+        ≡ line_text (option_map (λ time. time.now) time.entry) name.now value reply.now) }
 {
     let mut line = String::from_str(alloc, "{\"accepted\":")?;
     line.push_str(Buffer::new().format(accepted_of(reply)))?;

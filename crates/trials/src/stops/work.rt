@@ -52,10 +52,11 @@ fn run<F: FileHandle + AllocGlobal, W: Write>(
     Ok(office.surrender())
 }
 
-type StoppingOffice = Office<FileStore<Stopping>>;
+/// An office over files that may stop.
+pub(crate) type StoppingOffice = Office<FileStore<Stopping>>;
 
 /// The office in the files, which may not stop before it is opened.
-fn opened(alloc: Global, files: Files<Stopping>) -> Result<StoppingOffice> {
+pub(crate) fn opened(alloc: Global, files: Files<Stopping>) -> Result<StoppingOffice> {
     if !files.log.may_be_used() || !files.db.may_be_used() {
         return Err(anyhow!("a file cannot be used"));
     }
@@ -66,7 +67,7 @@ fn opened(alloc: Global, files: Files<Stopping>) -> Result<StoppingOffice> {
 }
 
 /// Answers the lines.
-fn answer<F: FileHandle + AllocGlobal>(
+pub(crate) fn answer<F: FileHandle + AllocGlobal>(
     rt: &F,
     alloc: Global,
     office: &mut StoppingOffice,

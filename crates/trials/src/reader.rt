@@ -1,6 +1,5 @@
-//! The reader of a request.
+//! A reader that gives pieces, and fails.
 
-use crate::requests::frames::Frame;
 use std::io::{self, ErrorKind, Read};
 
 /// A reader that gives at most `step` bytes a read, and fails once, after so many reads.
@@ -11,12 +10,12 @@ pub(crate) struct CutReader<'a> {
 }
 
 impl<'a> CutReader<'a> {
-    /// The reader of this frame.
-    pub(crate) fn new(frame: &'a Frame) -> CutReader<'a> {
+    /// The reader of these bytes.
+    pub(crate) fn new(bytes: &'a [u8], step: usize, reads: usize) -> CutReader<'a> {
         CutReader {
-            left: &frame.bytes,
-            step: frame.step,
-            reads: frame.reads,
+            left: bytes,
+            step,
+            reads,
         }
     }
 }
