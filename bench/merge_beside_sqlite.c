@@ -3,8 +3,8 @@
  * paragraph into the two scratch tables, each source package is decided from its own rows, and only records that differ are written, in one
  * transaction. Its answers are those of the office.
  * The pragmas are what `wb` asks of the kit's `sqlite`: a log that is synced at each commit and copied at 8,000 pages, foreign keys, pages of 4,096
- * bytes, 2,000 of them cached, and nobody else at the file. Eight bytes of each page are left free, where the office has its checksums; nothing is
- * written there.
+ * bytes, 2,000 of them cached, and nobody else at the file. Pages that were written go to the log once the cache is full, and those of the office
+ * every 500. Eight bytes of each page are left free, where the office has its checksums; nothing is written there.
  * It knows only what the measured lines need: lists that are well-formed, and records that merges alone made, none of which waits for packages. */
 #include "control.h"
 #include <sqlite3.h>

@@ -22,10 +22,12 @@ SECTIONS = ("libs", "devel", "admin", "utils", "text", "net")
 
 
 class Program:
-    """A running program that answers each line with one, in this folder."""
+    """A running program that answers each line with one, in this folder, where its messages go to a file."""
 
     def __init__(self, words, folder):
-        self.process = subprocess.Popen(words, cwd=folder, stdin=subprocess.PIPE, stdout=subprocess.PIPE)
+        self.messages = Path(folder) / "messages"
+        with open(self.messages, "ab") as messages:
+            self.process = subprocess.Popen(words, cwd=folder, stdin=subprocess.PIPE, stdout=subprocess.PIPE, stderr=messages)
         self.of = Path(f"/proc/{self.process.pid}")
 
     def ask(self, line):
@@ -35,7 +37,7 @@ class Program:
         self.process.stdin.flush()
         answer = self.process.stdout.readline().decode()
         if not answer:
-            sys.exit(f"{sys.argv[0]}: {self.process.args[0]} ended with {self.process.wait()} and no answer to {line[:200]}")
+            self.fail(f"and no answer to {line[:200]}")
         return answer, time.perf_counter() - at, self.spent() - before
 
     def spent(self):
@@ -49,7 +51,11 @@ class Program:
     def end(self):
         self.process.stdin.close()
         if self.process.wait() not in (0, 1):
-            sys.exit(f"{sys.argv[0]}: {self.process.args[0]} ended with {self.process.returncode}")
+            self.fail("")
+
+    def fail(self, more):
+        said = self.messages.read_text(errors="replace")[-500:]
+        sys.exit(f"{sys.argv[0]}: {self.process.args[0]} ended with {self.process.wait()} {more}\n{said}")
 
     def kill(self):
         self.process.kill()
