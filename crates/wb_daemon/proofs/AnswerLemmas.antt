@@ -16,7 +16,6 @@ use Rattle.wb_states.specs.declared.refusal.Refusal.{Refusal}
 use Rattle.wb_states.specs.declared.refusal.Refusal.TheVariants.{Closed, Store}
 use Rattle.wb_states.specs.declared.reply.Reply.{Reply}
 use Rattle.wb_states.specs.declared.store_fault.StoreFault.{StoreFault}
-use Rattle.wb_step.specs.Checks.{MayWantMemory}
 use Rattle.wb_step.proofs.CountedLemmas.{step-unchanged}
 use Rattle.wb_step.specs.Step.{step}
 use Rattle.wb_words.specs.Words.{invocation_in}
@@ -24,16 +23,15 @@ use Rattle.wb_words.specs.declared.fault.WordsFault.{WordsFault}
 use Rattle.wb_words.specs.declared.fault.WordsFault.TheVariants.{NoCommand, Memory}
 use Rattle.wb_words.specs.declared.words.Invocation.{Invocation}
 use Rattle.wb_words.specs.declared.words.Invocation.TheVariants.{Command as invocation_Command, Merge as invocation_Merge, Query as invocation_Query, Report as invocation_Report}
-use Rattle.wb_words.specs.declared.words.PartNames.{PartNames}
-use Rattle.wb_api.specs.Encoding.{line_fault_text, refusal_text, reply_text, is_plain, IsMemoryText}
+use Rattle.wb_api.specs.Encoding.{line_fault_text, refusal_text, is_plain, IsMemoryText}
 use Rattle.wb_api.specs.Queries.{query_text}
 use Rattle.wb_api.proofs.ExchangeLemmas.{found-formed, plain-query}
 use Rattle.deb_text.specs.Lines.{words_in, is_blank_line}
 use Rattle.wb_streams.specs.Line.{is_long, with_line_feed}
-use Rattle.wb_daemon.specs.Lists.{MayRead, MayReadMerge, MayReadReport, MayReadLess, LacksMerge, LacksReport}
-use Rattle.wb_step.specs.Offices.{Standing, InDoubt, Open, Shut}
-use Rattle.wb_daemon.specs.Run.{Asked, LineResponse, IsInvocationResponse, IsLineResponse, IsRefused, IsResponse, IsSaid, InvokesAs, Invokes, LineInvokes, IsRefusedByStore, IsResponseOfKind, LineKind, Blank, Fault, Request, answer_response, asked_by, command_response, found_response, kind_of_line, kind_of_invocation, invocation_of_line, line_fault_response, memory_response, needs_memory, query_response, refusal_response}
-use Rattle.wb_daemon.specs.Turn.{Answers, IsCommandResponseOrMemory, IsInvocationResponseOrMemory, IsMadeResponse, IsQueryResponseOrMemory, IsReadAs, AnswersInPart, IsWritten, TookEndedLine, TookLastLine, StopsAt, StopsTurn, Turns}
+use Rattle.wb_daemon.specs.Lists.{MayRead, MayReadReport, MayReadLess, LacksReport}
+use Rattle.wb_step.specs.Offices.{Standing, Open, Shut}
+use Rattle.wb_daemon.specs.Run.{Asked, LineResponse, IsInvocationResponse, IsLineResponse, IsRefused, IsResponse, IsSaid, InvokesAs, Invokes, IsRefusedByStore, IsResponseOfKind, LineKind, Blank, Fault, Request, answer_response, asked_by, command_response, found_response, kind_of_line, kind_of_invocation, invocation_of_line, line_fault_response, memory_response, needs_memory, refusal_response}
+use Rattle.wb_daemon.specs.Turn.{Answers, IsInvocationResponseOrMemory, IsMadeResponse, IsQueryResponseOrMemory, IsReadAs, AnswersInPart, IsWritten, TookEndedLine, TookLastLine, StopsAt, StopsTurn, Turns}
 use Rattle.wb_streams.specs.Streams.{AppendsFront}
 use Rattle.wb_daemon.specs.declared.answer.LineAnswer.{LineAnswer}
 use Rattle.wb_daemon.specs.declared.message.Cause.{Cause}

@@ -16,7 +16,7 @@ use Rattle.wb_daemon.specs.Lists.{MayRead}
 use Rattle.wb_states.specs.Queries.{answer_of}
 use Rattle.wb_states.specs.declared.query.Answer.{Answer}
 use Rattle.wb_states.specs.declared.query.Query.{Query}
-use Rattle.wb_step.specs.Offices.{Standing, Open, Shut, InDoubt, Failed, IsSoOfEach}
+use Rattle.wb_step.specs.Offices.{Standing, Open, InDoubt, Failed, IsSoOfEach}
 use Rattle.wb_daemon.specs.Replays.{IsAnswerTo, IsReplay, IsReplayCut, IsReplayRefused, LeavesReplay, IsResponseWithoutReply}
 use Rattle.wb_daemon.specs.Run.{Asked, Request, InvokesAs, Invokes, EndsInput, Fault, LineKind, LineInvokes, Runs, LineResponse, IsInvocationResponse, IsLineResponse, IsRefused, IsRefusedByStore, IsResponse, IsResponseOfKind, IsSaid, Blank, RunStopsFor, StopsInLine, answer_response, asked_by, command_response, file_fault_response, followed, found_response, kind_of_line, no_response, query_response}
 use Rattle.wb_daemon.specs.declared.message.Cause.{Cause}
@@ -205,8 +205,7 @@ IsReplay-snoc may_read (line ∷ lines) machine answered last command (commands,
     let reply = command_response later.machine command in
     command_more may_read machine line (lines ++ last ∷ []) (followed answered (command_response answered.machine command)) response (followed later reply)
     (followed-then answered response later command e) first asks said
-    (IsReplay-snoc may_read lines response.machine later last command
-    (
+    (IsReplay-snoc may_read lines response.machine later last command (
       others,
       rest,
       sym (ap (λ (s : LineResponse). s.machine) e) ∙ is ∙ ap (replay machine) are

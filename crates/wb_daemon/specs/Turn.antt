@@ -1,5 +1,5 @@
 -- What one turn of a run does: it reads a line and answers it.
-use Rattle.std.specs.Prelude.{◌≡◌, ℕ, Bool, ◌<◌, ◌≤◌, false, true, ◌⊎◌, List, length, take, ⊤, IsOk, IsTrue, Option, None, Some, Result, Ok, Err}
+use Rattle.std.specs.Prelude.{◌≡◌, ℕ, Bool, ◌≤◌, false, true, ◌⊎◌, List, ⊤, IsTrue, Option, None, Some, Result, Ok, Err}
 use Rattle.std.specs.Cow.{cow_str_bytes}
 use Rattle.std.specs.Io.KnownBytes.{Appends, Consumes, IsAtEnd}
 use Rattle.wb_states.specs.Machine.{Machine}
@@ -10,7 +10,6 @@ use Rattle.wb_states.specs.declared.refusal.Refusal.{Refusal}
 use Rattle.wb_states.specs.declared.refusal.Refusal.TheVariants.{Memory as refusal_Memory}
 use Rattle.wb_states.specs.declared.reply.Reply.{Reply as AnyReply}
 use Rattle.wb_states.specs.Refusals.{is_of_store}
-use Rattle.wb_step.specs.Step.{step}
 use Rattle.wb_words.specs.declared.fault.WordsFault.{WordsFault}
 use Rattle.wb_words.specs.declared.fault.WordsFault.TheVariants.{NoCommand, Memory}
 use Rattle.wb_words.specs.declared.words.Invocation.{Invocation}
