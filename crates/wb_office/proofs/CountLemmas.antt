@@ -27,12 +27,12 @@ outcome-counted (Some other) again machine command reply told new = absurd (clas
     clash is = cc
 outcome-counted None (Some entry) machine command reply told new = absurd (by reply told new)
   where
-    by : (reply : Reply) → (outcome None (Some entry) machine command).0 ≡ Ok reply → is_again reply ≡ false → ⊥
-    by reply told new = both_ways (is_again reply) new (ap (λ (o : Result Reply Refusal). is_again_of o) (sym told))
-
     is_again_of : Result Reply Refusal → Bool
     is_again_of (Ok reply) = is_again reply
     is_again_of (Err refusal) = false
+
+    by : (reply : Reply) → (outcome None (Some entry) machine command).0 ≡ Ok reply → is_again reply ≡ false → ⊥
+    by reply told new = both_ways (is_again reply) new (ap (λ (o : Result Reply Refusal). is_again_of o) (sym told))
 outcome-counted None None machine command reply told new = refl
 
 -- an accepted command is counted
@@ -44,9 +44,9 @@ step-counted machine command (reply, told, new) = outcome-counted (first_refusal
 
 -- each of them is counted
 pub replay-counted : (machine : Machine) (commands : List Command) → AreAccepted machine commands → (replay machine commands).accepted ≡ machine.accepted + length commands
-replay-counted machine [] all = arith
+replay-counted machine [] all = omega arith
 replay-counted machine (command ∷ commands) all =
-    replay-counted (step machine command).1 commands all.1 ∙ ap (λ (n : ℕ). n + length commands) (step-counted machine command all.0) ∙ arith
+    replay-counted (step machine command).1 commands all.1 ∙ ap (λ (n : ℕ). n + length commands) (step-counted machine command all.0) ∙ omega arith
 
 pub accepted-append : (machine : Machine) (one other : List Command) → AreAccepted machine one → AreAccepted (replay machine one) other → AreAccepted machine (one ++ other)
 accepted-append machine [] other all later = later
