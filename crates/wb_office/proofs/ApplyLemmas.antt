@@ -115,7 +115,7 @@ pub none_opens : {refusal : Refusal} (f : StoreFault) → refusal ≡ refusal_fo
 none_opens {refusal} f told no_store other = both_ways (is_of_store refusal) no_store (ap is_of_store told ∙ of_fault f (λ is. other (told ∙ is)))
 
 -- a failure is never answered as that the office is closed
-not_closed_by : (failure : Failure) → IsOfStep failure → refusal_of failure ≢ Closed
+pub not_closed_by : (failure : Failure) → IsOfStep failure → refusal_of failure ≢ Closed
 not_closed_by (Refused refusal) of_step is = both_ways (is_of_store refusal) of_step (ap is_of_store is)
 not_closed_by (Unread f) of_step is = not_closed_for f is
 not_closed_by (Uncommitted (TakenBack f)) of_step is = not_closed_for f is
@@ -167,6 +167,8 @@ ends_refused g held refusal is_closed closes = record {
     left = either_of (step machine command).1 (state g held) (settled_back (state g held) left.1.1);
     shut = λ is. settled_back (state g held) left.1.1;
   };
+  back = λ clean machine back. back;
+  is_open = λ clean. refl;
   told = refl;
   ends = λ of_store. closes ∙ of_store;
   opens = λ no_store _. closes ∙ no_store;
@@ -182,6 +184,8 @@ module _ {S : Type 0} (g : Ghosts S) (old new : Held S) (refusal : Refusal) (is_
     was_clean = h.was_clean;
     limit = h.limit;
     refused = λ clean machine command before left. refused_back g machine command new e refusal is_closed h.told (h.back clean machine left.1) (h.is_open clean) h.ends;
+    back = h.back;
+    is_open = h.is_open;
     told = h.told;
     ends = h.ends;
     opens = λ no_store other. absurd (none_opens e h.told no_store other);
@@ -196,6 +200,8 @@ module _ {S : Type 0} (g : Ghosts S) (old new : Held S) (refusal : Refusal) (is_
     was_clean = h.was_clean;
     limit = h.limit;
     refused = λ clean machine command before left. refused_back g machine command new e refusal is_closed h.told (h.back clean machine left.0) (h.is_open clean) h.ends;
+    back = h.back;
+    is_open = h.is_open;
     told = h.told;
     ends = h.ends;
     opens = λ no_store other. absurd (none_opens e h.told no_store other);
@@ -210,6 +216,8 @@ ends_not_taken_back g held e refusal told = record {
   was_clean = λ clean. clean;
   limit = refl;
   refused = λ clean machine command before left. refused_back g machine command held e refusal true told left.0 (λ not_closed. cc) (λ of_store. refl);
+  back = λ clean machine back. back;
+  is_open = λ clean not_closed. cc;
   told = told;
   ends = λ of_store. refl;
   opens = λ no_store other. absurd (none_opens e told no_store other);
@@ -225,6 +233,8 @@ ends_in_doubt g held e refusal told = record {
   was_clean = λ clean. clean;
   limit = refl;
   refused = λ clean machine command before left. refused_in_doubt g machine command held e refusal told left.0;
+  back = λ clean machine back. back;
+  is_open = λ clean not_closed. cc;
   told = told;
   ends = λ of_store. refl;
   opens = λ no_store other. absurd (both_ways (is_of_store refusal) no_store (ap is_of_store told));
@@ -371,10 +381,11 @@ stays_shut {S} g {machine} {is_closed = is_closed} stands closed same held_same 
   is_open = λ not_closed. absurd (both_ways is_closed not_closed closed);
 }
 
-at_err : {A E : Type 0} (P : E → Type 0) (r : Result A E) (e : E) → r ≡ Err e → IfErr r P → P e
+-- what is so of the error of a result
+pub at_err : {A E : Type 0} (P : E → Type 0) (r : Result A E) (e : E) → r ≡ Err e → IfErr r P → P e
 at_err P r e is h = subst (λ x. IfErr x P) is h
 
-if_err : {A E : Type 0} {P : E → Type 0} (r : Result A E) → ((e : E) → r ≡ Err e → P e) → IfErr r P
+pub if_err : {A E : Type 0} {P : E → Type 0} (r : Result A E) → ((e : E) → r ≡ Err e → P e) → IfErr r P
 if_err (Ok x) h = tt
 if_err (Err e) h = h e refl
 

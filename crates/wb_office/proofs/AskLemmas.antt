@@ -269,7 +269,7 @@ module _ {S : Type 0} {g : Ghosts S} {answer_of : Machine → Result Answer Refu
       failed (inr (refusal, fails, unread)) =
           let told : refusal ≡ Store f = same_err (sym fails ∙ is) in
           let same : new ≡ unread.at = unread.same (λ none. no_memory (sym told ∙ none)) in
-          inr (old, unread.fault, subst (λ held. FailsToFind g old held unread.fault) (sym same) unread.failed, sym told ∙ unread.told)
+          inr (inl (old, unread.fault, subst (λ held. FailsToFind g old held unread.fault) (sym same) unread.failed, sym told ∙ unread.told))
 
       closes : IsAskedAt g answer_of machine old is_closed new r → is_closed ≡ true
       closes (inl answered) = absurd (of_state machine (Store f) refl (answered.0 ∙ is))

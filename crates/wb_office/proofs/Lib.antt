@@ -9,6 +9,8 @@ pub mod FoundLemmas
 pub mod HistoryLemmas
 pub mod KnownLemmas
 pub mod LifeLemmas
+pub mod ListAnswerLemmas
+pub mod ListApplyLemmas
 pub mod MergeAnswerLemmas
 pub mod MergeCarryLemmas
 pub mod MergeInLemmas

@@ -1,7 +1,6 @@
 -- What is answered to a merge of lists in memory, from what a merge of lists in a transaction makes.
-use Rattle.std.proofs.Common.{◌≡◌, ◌⊎◌, ◌∙◌, refl, sym, ap, subst, inl, inr, ℕ, ◌+◌, Bool, true, false, cond, ◌||◌, nat_le, List, [], ◌∷◌, Option, Some, None, Result, Ok, Err, Vec, is_ok}
-use Rattle.std.specs.Result.{result_err}
-use Rattle.std.specs.List.{AllZip, list_any}
+use Rattle.std.proofs.Common.{◌≡◌, ◌⊎◌, ◌∙◌, refl, sym, ap, subst, inl, inr, ℕ, ◌+◌, Bool, true, false, nat_le, List, Option, Some, None, Ok, Err, Vec}
+use Rattle.std.specs.List.{AllZip}
 use Rattle.std.specs.FinMap as map
 use Rattle.sqlite_trees.specs.declared.store.Store.{Ghosts}
 use Rattle.sqlite.specs.Held.{Held, state}
@@ -23,10 +22,9 @@ use Rattle.wb_states.specs.declared.reply.Reply.TheVariants.{Merged}
 use Rattle.wb_states.specs.declared.store_fault.StoreFault.{StoreFault}
 use Rattle.wb_states.specs.Limits.{count_limit}
 use Rattle.wb_states.specs.Machine.{Machine}
-use Rattle.wb_merge.specs.Listing.{ArchiveListing}
 use Rattle.wb_merge.specs.Merged.{Records}
 use Rattle.wb_step.specs.Checks.{first_refusal, text_checks, text_refusal, when}
-use Rattle.wb_step.specs.Parts.{end_with, is_good, is_merged, part_listing, part_replies, parts_refusal, records_with}
+use Rattle.wb_step.specs.Parts.{parts_refusal}
 use Rattle.wb_step.specs.Step.{Outcome, outcome, step}
 use Rattle.wb_step.proofs.PartLemmas.{first_refusal-Merge}
 use Rattle.wb_step.proofs.PassLemmas.{when-None}
@@ -34,18 +32,20 @@ use Rattle.wb_step.proofs.StepLemmas.{step-refused}
 use Rattle.wb_step.proofs.WantLemmas.{want-text}
 use Rattle.wb_archive.specs.declared.merge.PartList.{PartList}
 use Rattle.wb_archive.specs.Merges.{BeginsAt, IsPartOf}
+use Rattle.wb_archive.specs.Readers.{refusal_by}
 use Rattle.wb_archive.proofs.KnownListLemmas.{begins-unread, merge-known, parts-unread}
 use Rattle.wb_archive.proofs.MergeLemmas.{parts-are}
+use Rattle.wb_archive.proofs.ReaderLemmas.{refusal_by-parts}
 use Rattle.wb_store.specs.Opening.{AreCountsOf}
 use Rattle.wb_store.specs.Settled.{IsSettled, LeavesEither}
 use Rattle.wb_office.specs.declared.answer.Failure.{Failure}
 use Rattle.wb_office.specs.declared.answer.Failure.TheVariants.{Refused, Unread, Uncommitted}
 use Rattle.wb_office.specs.declared.carry.CarryError.{CarryError}
 use Rattle.wb_office.specs.declared.carry.CarryError.TheVariants.{TakenBack, RollBackFailed, InDoubt}
-use Rattle.wb_office.specs.Answers.{Answers, AreOf, IsLeft}
+use Rattle.wb_office.specs.Answers.{Answers, AreOf, IsLeft, merged_answer}
 use Rattle.wb_office.specs.Carried.{LeavesAs}
 use Rattle.wb_office.specs.MergeCarried.{CarriesLists, FailsAsMerge, FailsAtMergeCommit, IsNotMerged, IsCarriedMerge, MergeEndsFor, MergeLeavesAs}
-use Rattle.wb_office.specs.MergeLists.{AreListsDone, AreListsToRead, AreTextsDone, IsAcceptedMerge, IsMergedIn, IsRefusedMerge, merged_office, refusal_by, refusal_in}
+use Rattle.wb_office.specs.MergeLists.{AreListsDone, AreListsToRead, AreTextsDone, IsAcceptedMerge, IsMergedIn, IsRefusedMerge, merged_office}
 use Rattle.wb_office.specs.PartLists.{Stands}
 
 -- ---- lists in memory
@@ -109,29 +109,7 @@ module _ {S : Type 0} (g : Ghosts S) (Done Is : Machine → List PartReply → R
   not_merged_as old new (Unread fault) one = absurd one
   not_merged_as old new (Uncommitted failure) one = (leaves_as (state g new) failure one.0, ends_as old new failure one.1)
 
--- ---- the refusal of a merge
-
-merged-good : (records : Records) (arch : List ℕ) (listing : Result ArchiveListing Refusal) → is_merged (end_with records arch listing) ≡ is_ok listing
-merged-good records arch (Ok listing) = refl
-merged-good records arch (Err refusal) = refl
-
-refusal-end : (records : Records) (arch : List ℕ) (listing : Result ArchiveListing Refusal) → refusal_in (end_with records arch listing) ≡ result_err listing
-refusal-end records arch (Ok listing) = refl
-refusal-end records arch (Err refusal) = refl
-
-any-merged : (machine : Machine) (sources : List ℕ) (parts : List Part) (records : Records)
-    → list_any (λ (r : PartReply). is_merged r.end) (part_replies machine sources parts records) ≡ list_any (is_good machine sources) parts
-any-merged machine sources [] records = refl
-any-merged machine sources (part ∷ parts) records =
-    let rest = any-merged machine sources parts (records_with records part.arch (part_listing machine sources part)) in
-    λ i. merged-good records part.arch (part_listing machine sources part) i || rest i
-
--- a merge is refused by its replies as by its parts
-refusal_by-parts : (machine : Machine) (sources : List ℕ) (parts : List Part) (records : Records)
-    → refusal_by (part_replies machine sources parts records) ≡ parts_refusal machine sources parts
-refusal_by-parts machine sources [] records = refl
-refusal_by-parts machine sources (part ∷ parts) records =
-    λ i. cond (any-merged machine sources (part ∷ parts) records i) None (refusal-end records part.arch (part_listing machine sources part) i)
+-- ---- the step of a merge
 
 module _ (merge : Merge) (texts : text_refusal (of.Merge merge) ≡ None) (machine : Machine) where
   -- the first refusal of a merge whose texts are not refused
@@ -174,8 +152,7 @@ module _ {S X : Type 0} (g : Ghosts S) (counts : Counts) (archs : List (List ℕ
     (are : (machine : Machine) → archs ≡ map.entries machine.archs → AllZip (IsPartOf (BeginsAt Stands) machine) lists merge.parts) (old new : Held S) where
   -- a merge that is carried out
   pub merge_kept : (replies : Vec PartReply X) → CarriesLists g (AreListsToRead Stands sources lists) (AreListsDone Stands NeverBreaks sources lists) counts old new (Ok replies)
-      → Answers g (AreOf counts archs) (of.Merge merge) old new
-      (Ok (record { reply = Merged (counts.accepted + 1) replies.items; counts = record { handed = counts.handed; accepted = counts.accepted + 1 } }))
+      → Answers g (AreOf counts archs) (of.Merge merge) old new (Ok (merged_answer counts replies.items))
   merge_kept replies carries = record {
     was_clean = carries.was_clean;
     limit = carries.limit;

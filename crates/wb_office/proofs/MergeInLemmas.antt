@@ -30,6 +30,7 @@ use Rattle.wb_archive.specs.declared.merge.PartList.{PartList}
 use Rattle.wb_archive.specs.Faults.{StopsAs}
 use Rattle.wb_archive.specs.Merges.{IsMergeOfLists, IsPartUnread, IsUnread}
 use Rattle.wb_archive.specs.Parts.{IsPartEnd, IsPartRefusal}
+use Rattle.wb_archive.specs.Readers.{refusal_by, refusal_in}
 use Rattle.wb_archive.specs.Tables.{Contents, Tables, with_records}
 use Rattle.wb_archive.proofs.EndLemmas.{kinds_of_store}
 use Rattle.wb_store.specs.Calls.{Changes, FailsToLookUp}
@@ -47,7 +48,7 @@ use Rattle.wb_store.proofs.SettledLemmas.{office_trees}
 use Rattle.wb_store.proofs.StaysLemmas.{was_clean}
 use Rattle.wb_office.specs.declared.merge_lists.Stop.{Stop}
 use Rattle.wb_office.specs.declared.merge_lists.Stop.TheVariants.{Failed, Refused}
-use Rattle.wb_office.specs.MergeLists.{AreListsDone, AreListsToRead, FailsToMerge, IfFailed, IfRefused, IsLeftWithLists, IsMergedIn, IsRefusedMerge, MergesLists, counted, fault_in, merged_office, refusal_by, refusal_in}
+use Rattle.wb_office.specs.MergeLists.{AreListsDone, AreListsToRead, FailsToMerge, IfFailed, IfRefused, IsLeftWithLists, IsMergedIn, IsRefusedMerge, MergesLists, counted, fault_in, merged_office}
 use Rattle.wb_office.specs.Turns.{IsNoOffice}
 
 -- ---- before a merge

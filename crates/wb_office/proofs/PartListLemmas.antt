@@ -1,4 +1,4 @@
--- The parts of a merge in memory, as lists that are to be read.
+-- The parts of a merge, as lists that are to be read.
 use Rattle.std.proofs.Common.{◌≡◌, ◌∙◌, sym, ap, subst, ℕ, ◌+◌, ◌<◌, ◌≤◌, true, false, cond, List, [], ◌∷◌, ◌++◌, length, drop, get_or, Some, None, bytes_eq, append_assoc, append-nil}
 use Rattle.std.proofs.lemmas.List.{drop_all}
 use Rattle.std.specs.List.{AllZip}
@@ -44,3 +44,22 @@ module _ {X Y : Type 0} (P : X → Y → Type 0) (ys : List Y) where
   pub goes_on_to_end : (xs : List X) (at : ℕ) → length ys ≤ at → GoesOn xs at → AllZip P xs ys
   goes_on_to_end xs at past before =
       subst (λ l. AllZip P l ys) (append-nil xs) (before [] (subst (AllZip P []) (sym (drop_all at ys past)) tt))
+
+module _ {X Y : Type 0} (P : Y → X → Type 0) (ys : List Y) where
+  -- what more, one for each that is still to come, makes of the whole
+  abbrev pub GoesOnFor : List X → List Y → Type 0
+  GoesOnFor xs rest = (more : List X) → AllZip P rest more → AllZip P ys (xs ++ more)
+
+  -- none was made yet
+  pub goes_on_from : (xs : List X) (rest : List Y) → xs ≡ [] → rest ≡ ys → GoesOnFor xs rest
+  goes_on_from xs rest none all more zip = subst (λ l. AllZip P ys (l ++ more)) (sym none) (subst (λ l. AllZip P l more) all zip)
+
+  -- one more
+  pub goes_on_with : (xs new : List X) (rest later : List Y) (y : Y) (x : X) → rest ≡ y ∷ later → P y x → new ≡ xs ++ x ∷ [] → GoesOnFor xs rest → GoesOnFor new later
+  goes_on_with xs new rest later y x is one made before more zip =
+      subst (AllZip P ys) (sym (ap (λ l. l ++ more) made ∙ append_assoc xs (x ∷ []) more))
+      (before (x ∷ more) (subst (λ l. AllZip P l (x ∷ more)) (sym is) (one, zip)))
+
+  -- no more is to come
+  pub goes_on_for_all : (xs : List X) (rest : List Y) → rest ≡ [] → GoesOnFor xs rest → AllZip P ys xs
+  goes_on_for_all xs rest none before = subst (AllZip P ys) (append-nil xs) (before [] (subst (λ l. AllZip P l []) (sym none) tt))

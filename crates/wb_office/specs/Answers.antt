@@ -1,5 +1,5 @@
 -- What the office answers to a command that is carried out over its tables, and where it then stands.
-use Rattle.std.specs.Prelude.{◌≡◌, ◌⊎◌, ⊤, ℕ, Bool, true, false, List, Option, Result, Ok, Err, IfOk, IfErr, OnOk}
+use Rattle.std.specs.Prelude.{◌≡◌, ◌⊎◌, ⊤, ℕ, ◌+◌, Bool, true, false, List, Option, Result, Ok, Err, IfOk, IfErr, OnOk}
 use Rattle.std.specs.FinMap as map
 use Rattle.sqlite_trees.specs.declared.store.Store.{Ghosts}
 use Rattle.sqlite.specs.Held.{Held, state}
@@ -10,6 +10,7 @@ use Rattle.wb_states.specs.declared.command.Command.TheVariants as of
 use Rattle.wb_states.specs.declared.command.Merge.{Merge}
 use Rattle.wb_states.specs.declared.command.Report.{Report}
 use Rattle.wb_states.specs.declared.counts.Counts.{Counts}
+use Rattle.wb_states.specs.declared.reply.PartReply.{PartReply}
 use Rattle.wb_states.specs.declared.reply.Reply.{Reply}
 use Rattle.wb_states.specs.declared.reply.Reply.TheVariants as is
 use Rattle.wb_states.specs.declared.refusal.Refusal.TheVariants.{Memory}
@@ -33,7 +34,7 @@ use Rattle.wb_store.specs.Finds.{FailsToFind, StaysAs}
 use Rattle.wb_office.specs.Keys.{key_put}
 use Rattle.wb_office.specs.Kinds.{IsOfStep}
 use Rattle.wb_office.specs.MergeCarried.{MergeEndsFor}
-use Rattle.wb_office.specs.MergeLists.{AreTextsDone}
+use Rattle.wb_office.specs.MergeLists.{AreTextsDone, counted}
 use Rattle.wb_office.specs.Rows.{IsReportIn, RowsEndFor}
 use Rattle.wb_store.specs.Opening.{AreCountsOf}
 use Rattle.wb_office.specs.Standing.{Knows}
@@ -45,6 +46,10 @@ is_again (is.Job accepted given) = false
 is_again (is.Again accepted given) = true
 is_again (is.Merged accepted parts) = false
 is_again (is.Reported accepted changed) = false
+
+-- the answer to a merge that was carried out, with these counts before it and these replies
+abbrev pub merged_answer : Counts → List PartReply → Answered
+merged_answer counts replies = record { reply = is.Merged (counts.accepted + 1) replies; counts = counted counts }
 
 -- the state has these counts and these architectures
 abbrev pub AreOf : Counts → List (List ℕ × OsCpu) → Machine → Type 0

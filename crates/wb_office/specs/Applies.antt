@@ -58,12 +58,20 @@ IsNotTakenBack failure = (fault : StoreFault) × (failure ≡ Uncommitted (RollB
 abbrev pub MustClose : {S : Type 0} → Ghosts S → Failure → Held S → Held S → Type 0
 MustClose g failure old new = CannotBeUsed g old new ⊎ IsNotTakenBack failure
 
+-- a refusal leaves the connection as it was, and after any other failure it is open if the office is not closed
+abbrev pub IsOpenAfter : {S : Type 0} → Ghosts S → Failure → Held S → Held S → Bool → Type 0
+IsOpenAfter g (Refused refusal) old new is_closed = new ≡ old
+IsOpenAfter g (Unread fault) old new is_closed = is_closed ≡ false → IsTrue (state g new).is_open
+IsOpenAfter g (Uncommitted failure) old new is_closed = is_closed ≡ false → IsTrue (state g new).is_open
+
 -- what is answered after a failure, and whether the office is closed then
 pub record Ends {S : Type 0} (g : Ghosts S) (failure : Failure) (old new : Held S) (refusal : Refusal) (is_closed : Bool) : Type 0 where
   pub was_clean : HasCleanDisk (state g new) → HasCleanDisk (state g old)
   pub limit : new.step_limit ≡ old.step_limit
   pub refused : HasCleanDisk (state g new) → (machine : Machine) (command : Command) (before : Held S) → IsLeft g machine command before old failure
       → IsRefusedIn g machine command is_closed new refusal
+  pub back : HasCleanDisk (state g new) → (machine : Machine) → IsBackAt machine (state g old) → IsBackAt machine (state g new)
+  pub is_open : HasCleanDisk (state g new) → IsOpenAfter g failure old new is_closed
   pub told : refusal ≡ refusal_of failure
   pub ends : is_of_store refusal ≡ true → is_closed ≡ true
   pub opens : is_of_store refusal ≡ false → refusal ≢ Memory → is_closed ≡ false

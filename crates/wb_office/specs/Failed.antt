@@ -1,15 +1,17 @@
 -- Why an office is closed: its store failed.
-use Rattle.std.specs.Prelude.{◌≡◌, ◌⊎◌}
+use Rattle.std.specs.Prelude.{◌≡◌, ◌⊎◌, ℕ, List, Option}
 use Rattle.sqlite_trees.specs.declared.store.Store.{Ghosts}
 use Rattle.sqlite.specs.Held.{Held}
 use Rattle.wb_states.specs.declared.command.Command.{Command}
 use Rattle.wb_states.specs.declared.refusal.Refusal.TheVariants.{Store}
 use Rattle.wb_states.specs.declared.store_fault.StoreFault.{StoreFault}
 use Rattle.wb_states.specs.Machine.{Machine}
+use Rattle.wb_archive.specs.declared.merge_from.ArchList.{ArchList}
 use Rattle.wb_store.specs.Finds.{FailsToFind}
 use Rattle.wb_office.specs.declared.answer.Failure.{Failure}
 use Rattle.wb_office.specs.Answers.{IsLeft}
 use Rattle.wb_office.specs.Applies.{refusal_for, refusal_of}
+use Rattle.wb_office.specs.ListAnswers.{AreListsLeft}
 
 -- a command was not carried out, for this fault: a look-up or a write failed with it, or the commit
 abbrev pub FailsToCarryOut : {S : Type 0} → Ghosts S → StoreFault → Held S → Type 0
@@ -20,6 +22,13 @@ FailsToCarryOut {S} g fault new =
 abbrev pub FailsToAnswer : {S : Type 0} → Ghosts S → StoreFault → Held S → Type 0
 FailsToAnswer {S} g fault new = (old : Held S) × (told : StoreFault) × FailsToFind g old new told × (Store fault ≡ refusal_for told)
 
--- the store of an office failed with this fault, for a command or for a query
+-- a merge of lists was not made, for this fault: a look-up or a call of the merge failed with it, or the commit; of the readers it is told what is known
+-- of their bytes
+abbrev pub FailsToMergeLists : {S : Type 0} → Ghosts S → StoreFault → Held S → Type 0
+FailsToMergeLists {S} g fault new =
+    (machine : Machine) × (sources : Option (List ℕ)) × (lists : List (ArchList (Option (List ℕ)))) × (old : Held S) × (failure : Failure)
+    × AreListsLeft g (λ known. known) sources lists machine old new failure × (Store fault ≡ refusal_of failure)
+
+-- the store of an office failed with this fault, for a command, for a query or for a merge of lists
 abbrev pub HasFailed : {S : Type 0} → Ghosts S → StoreFault → Held S → Type 0
-HasFailed g fault new = FailsToCarryOut g fault new ⊎ FailsToAnswer g fault new
+HasFailed g fault new = FailsToCarryOut g fault new ⊎ (FailsToAnswer g fault new ⊎ FailsToMergeLists g fault new)

@@ -1,5 +1,6 @@
 pub mod Answers
 pub mod Applies
+pub mod AppliesLists
 pub mod Asks
 pub mod Carried
 pub mod Changed
@@ -9,6 +10,7 @@ pub mod Files
 pub mod History
 pub mod Keys
 pub mod Kinds
+pub mod ListAnswers
 pub mod Lives
 pub mod MergeCarried
 pub mod MergeLists

@@ -1,6 +1,6 @@
 -- A merge of lists in a transaction of the office: what it reads, what it makes of the office, and why it is not made.
-use Rattle.std.specs.Prelude.{◌≡◌, ◌⊎◌, ⊤, ℕ, ◌+◌, ◌≤◌, Bool, true, false, nat_le, List, [], ◌∷◌, Option, None, Some, if◌then◌else◌, Result, Vec, IsTrue, IfOk, IfErr, OnOk}
-use Rattle.std.specs.List.{AllByRecursion, list_any}
+use Rattle.std.specs.Prelude.{◌≡◌, ◌⊎◌, ⊤, ℕ, ◌+◌, ◌≤◌, true, false, nat_le, List, None, Some, Result, Vec, IsTrue, IfOk, IfErr, OnOk}
+use Rattle.std.specs.List.{AllByRecursion}
 use Rattle.sqlite_trees.specs.declared.store.Store.{Ghosts}
 use Rattle.sqlite.specs.Held.{Held, state}
 use Rattle.sqlite.specs.State.{HasCleanDisk, Survives}
@@ -9,9 +9,7 @@ use Rattle.deb_control.specs.Paragraphs.{ReaderState}
 use Rattle.wb_states.specs.declared.command.Part.{Part}
 use Rattle.wb_states.specs.declared.counts.Counts.{Counts}
 use Rattle.wb_states.specs.declared.refusal.Refusal.{Refusal}
-use Rattle.wb_states.specs.declared.refusal.Refusal.TheVariants.{Spent, UnknownArch}
-use Rattle.wb_states.specs.declared.reply.PartEnd.{PartEnd}
-use Rattle.wb_states.specs.declared.reply.PartEnd.TheVariants as end
+use Rattle.wb_states.specs.declared.refusal.Refusal.TheVariants.{Spent}
 use Rattle.wb_states.specs.declared.reply.PartReply.{PartReply}
 use Rattle.wb_states.specs.declared.store_fault.StoreFault.{StoreFault}
 use Rattle.wb_states.specs.declared.store_fault.StoreFault.TheVariants.{Memory}
@@ -20,11 +18,12 @@ use Rattle.wb_states.specs.Limits.{count_limit}
 use Rattle.wb_states.specs.Machine.{Machine}
 use Rattle.wb_states.specs.Refusals.{is_of_store}
 use Rattle.wb_merge.specs.Merged.{Records}
-use Rattle.wb_step.specs.Parts.{is_merged, part_replies, records_after}
+use Rattle.wb_step.specs.Parts.{part_replies, records_after}
 use Rattle.wb_archive.specs.declared.fault.MergeFault.{MergeFault}
 use Rattle.wb_archive.specs.declared.fault.MergeFault.TheVariants as merge_fault
 use Rattle.wb_archive.specs.declared.merge.PartList.{PartList}
 use Rattle.wb_archive.specs.Merges.{IsMergeOfLists, IsPartUnread, IsUnread}
+use Rattle.wb_archive.specs.Readers.{refusal_by}
 use Rattle.wb_store.specs.Calls.{FailsToWrite}
 use Rattle.wb_store.specs.Faults.{IsUnfit}
 use Rattle.wb_store.specs.Merging.{Scratch}
@@ -54,16 +53,6 @@ AreListsDone MayStand Breaks sources parts machine replies last =
 pub record AreTextsDone (sources : List ℕ) (parts : List Part) (machine : Machine) (replies : List PartReply) (last : Records) : Type 0 where
   pub replies_are : replies ≡ part_replies machine sources parts machine.records
   pub last_is : last ≡ records_after machine sources parts machine.records
-
--- the refusal of a part, if it was refused
-abbrev pub refusal_in : PartEnd → Option Refusal
-refusal_in (end.Merged counts) = None
-refusal_in (end.Refused refusal) = Some refusal
-
--- why a merge with these replies is refused: no part was merged, and this is why the first was not; one without parts has no architecture
-abbrev pub refusal_by : List PartReply → Option Refusal
-refusal_by [] = Some UnknownArch
-refusal_by (reply ∷ replies) = if list_any (λ (r : PartReply). is_merged r.end) (reply ∷ replies) then None else refusal_in reply.end
 
 -- the fault for which a merge stopped, as that of the store
 abbrev pub fault_in : MergeFault StoreFault → StoreFault

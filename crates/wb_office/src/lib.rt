@@ -11,6 +11,7 @@ mod history;
 mod known;
 pub mod laws;
 mod life;
+mod lists;
 mod merge_lists;
 mod merging;
 mod named;

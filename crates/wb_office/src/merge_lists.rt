@@ -5,9 +5,10 @@ ghost use Rattle.wb_states.specs.declared.refusal.Refusal.TheVariants.{Spent};
 ghost use Rattle.wb_states.specs.declared.store_fault.Table.TheVariants.{Office};
 ghost use Rattle.wb_states.specs.Limits.{count_limit};
 ghost use Rattle.wb_step.specs.Parts.{is_merged};
+ghost use Rattle.wb_archive.specs.Readers.{refusal_by};
 ghost use Rattle.wb_store.specs.Faults.{IsUnfit};
 ghost use Rattle.wb_office.specs.MergeLists.{AreListsDone, AreListsToRead, IfFailed, IfRefused, MergesLists};
-ghost use Rattle.wb_office.specs.MergeLists.{counted, fault_in, refusal_by};
+ghost use Rattle.wb_office.specs.MergeLists.{counted, fault_in};
 
 use sqlite::Alter;
 use std::alloc::Global;

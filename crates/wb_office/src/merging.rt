@@ -1,11 +1,12 @@
 //! What the office answers to a merge over its tables: the lists are read paragraph by paragraph into the tables, and the records
 //! that they change are written, in one transaction.
-ghost use Rattle.std.specs.Prelude.{◌≡◌, None, false};
+ghost use Rattle.std.specs.Prelude.{◌≡◌, None, false, nat_le};
 ghost use Rattle.sqlite.specs.Held.{state};
 ghost use Rattle.sqlite.specs.State.{Survives};
 ghost use Rattle.wb_states.specs.declared.command.Command.TheVariants as of;
+ghost use Rattle.wb_states.specs.Limits.{count_limit};
 ghost use Rattle.wb_step.specs.Checks.{text_refusal};
-ghost use Rattle.wb_office.specs.Answers.{Answers, AreOf};
+ghost use Rattle.wb_office.specs.Answers.{Answers, AreOf, merged_answer};
 ghost use Rattle.wb_office.specs.MergeCarried.{CarriesLists, EndsStopped};
 ghost use Rattle.wb_office.specs.MergeLists.{AreListsDone, AreListsToRead};
 
@@ -73,6 +74,24 @@ pub(crate) fn carry_lists<S: Alter + Drop, R: ReadParagraphs>(
     }
 }
 
+/// The answer to a merge that was carried out, with these counts before it and these replies.
+pub(crate) fn merged(counts: Counts, replies: Vec<PartReply>) -> Answered
+    requires room { nat_le count_limit counts.accepted ≡ false }
+    ensures value { result ≡ merged_answer counts replies.items }
+{
+    let accepted = counts.accepted + 1;
+    Answered {
+        reply: Reply::Merged {
+            accepted,
+            parts: Items::from(replies),
+        },
+        counts: Counts {
+            handed: counts.handed,
+            accepted,
+        },
+    }
+}
+
 /// Carries out a merge whose lists are in memory.
 pub(crate) fn answer_merge<S: Alter + Drop>(
     alloc: Global,
@@ -92,15 +111,5 @@ pub(crate) fn answer_merge<S: Alter + Drop>(
     };
     let mut sources = Paragraphs::of(merge.sources.as_slice());
     let replies = carry_lists(alloc, store, counts, &mut sources, parts)?;
-    let accepted = counts.accepted + 1;
-    Ok(Answered {
-        reply: Reply::Merged {
-            accepted,
-            parts: Items::from(replies),
-        },
-        counts: Counts {
-            handed: counts.handed,
-            accepted,
-        },
-    })
+    Ok(merged(counts, replies))
 }

@@ -22,6 +22,7 @@ ghost use Rattle.wb_rows.specs.Shown.{row_of};
 ghost use Rattle.wb_office.specs.declared.answer.Failure.TheVariants.{Uncommitted};
 ghost use Rattle.wb_states.specs.Queries.{answer_of, has_malformed_name};
 ghost use Rattle.wb_office.specs.Applies.{Applies, Ends, EndsWith, refusal_for};
+ghost use Rattle.wb_office.specs.AppliesLists.{AppliesLists};
 ghost use Rattle.wb_office.specs.Asks.{Asks};
 ghost use Rattle.wb_office.specs.Failed.{HasFailed};
 ghost use Rattle.wb_office.specs.Standing.{LeavesOne, StandsAt, StandsAtOne};
@@ -29,11 +30,14 @@ ghost use Rattle.wb_office.specs.Standing.{LeavesOne, StandsAt, StandsAtOne};
 use crate::answer::{Failure, answer};
 use crate::carry::CarryError;
 use crate::known::Known;
+use crate::lists::answer_lists;
 use crate::query::find_answer;
 use deb_text::Items;
 use sqlite::{Alter, Connection, FileStore, Files, Options};
 use sqlite_disk::Disk;
 use std::alloc::Global;
+use std::io::BufRead;
+use wb_archive::{ArchList, MergeFrom, check_archs};
 use wb_rows::TableRow;
 use wb_states::{Answer, Command, Query, Refusal, Reply, StoreFault};
 use wb_step::{CarryOut, check_texts};
@@ -116,6 +120,39 @@ impl<S: Alter + Drop> Office<S> {
         }
         check_texts(self.alloc, command)?;
         match answer(self.alloc, &mut self.store, &mut self.known, command) {
+            Ok(reply) => Ok(reply),
+            Err(failure) => {
+                let (refusal, is_closed) = end(&mut self.store, failure);
+                self.is_closed = is_closed;
+                Err(refusal)
+            }
+        }
+    }
+
+    /// Merges a Sources list and a Packages list of each of some architectures, as readers give them, whole or not at all, and
+    /// answers it. No list is held in memory.
+    ///
+    /// An accepted merge is one transaction, which is committed before it is answered. The names of the architectures are
+    /// tested before anything is read: `BadName` comes if one is malformed, and `RepeatedArch` if two are the same, and
+    /// nothing is done. Sources is read once, before the others; a Packages list is not read if its architecture was never
+    /// added. If no part was merged, the refusal is that of the first, or `UnknownArch` if there is none: `UnknownArch`, or
+    /// `BadListing`, with the fault `Read` if the list could not be read on. `Spent` comes if no more command can be counted.
+    /// The office is then as it was. After `Memory` it is as it was too, but is closed if the transaction could not be taken
+    /// back. After `Store` it is closed, and a crash leaves the merge whole or not at all. A closed office, and no other,
+    /// answers `Closed` (this project's own).
+    pub fn merge_from<R: BufRead + Drop>(
+        &mut self,
+        sources: R,
+        parts: Vec<ArchList<R>>,
+    ) -> Result<Reply, Refusal>
+        ensures applies { AppliesLists S.Store R.remaining sources parts.items self.old.is_closed self.old.known self.old.store
+            self.new.is_closed self.new.known self.new.store result }
+    {
+        if self.is_closed {
+            return Err(Refusal::Closed);
+        }
+        check_archs(parts.as_slice())?;
+        match answer_lists(self.alloc, &mut self.store, &mut self.known, sources, parts) {
             Ok(reply) => Ok(reply),
             Err(failure) => {
                 let (refusal, is_closed) = end(&mut self.store, failure);
@@ -268,6 +305,16 @@ impl<S: Alter + Drop> CarryOut for Office<S> {
     }
 
     ghost consistent = { λ office machine stands. stands.consistent };
+}
+
+impl<S: Alter + Drop> MergeFrom for Office<S> {
+    fn merge_from<R: BufRead + Drop>(
+        &mut self,
+        sources: R,
+        parts: Vec<ArchList<R>>,
+    ) -> Result<Reply, Refusal> {
+        Office::merge_from(self, sources, parts)
+    }
 }
 
 /// What is answered after a failure, and whether the office is closed then.

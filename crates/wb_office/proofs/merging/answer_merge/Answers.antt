@@ -1,9 +1,8 @@
-use Rattle.std.proofs.Common.{◌∙◌, ◌+◌, Ok, sym, ap, subst}
+use Rattle.std.proofs.Common.{◌∙◌, Ok, sym, ap, subst}
 use Rattle.std.specs.List.{AllZip}
 use Rattle.deb_control.specs.Lines.{lines_of, paragraphs_in}
 use Rattle.deb_control.specs.Paragraphs.{begun}
 use Rattle.wb_states.specs.declared.command.Command.TheVariants as of
-use Rattle.wb_states.specs.declared.reply.Reply.TheVariants.{Merged}
 use Rattle.wb_archive.specs.Merges.{BeginsAt, IsPartOf}
 use Rattle.wb_store.proofs.ReadLemmas.{handed_on}
 use Rattle.wb_office.specs.Answers.{Answers, AreOf}
@@ -28,9 +27,8 @@ returns-in_err-replies g c = record {
 
 pub returns : goal.returns
 returns g c = record {
-  answers = subst (λ parts. Answers g.S.Store (AreOf c.args.counts c.args.archs.now) (of.Merge c.args.merge.now) c.args.store.now c.carry_lists.new.store
-      (Ok (record { reply = Merged (c.args.counts.accepted + 1) parts; counts = record { handed = c.args.counts.handed; accepted = c.args.counts.accepted + 1 } })))
-      (sym c.from.ensures)
+  answers = subst (λ answer. Answers g.S.Store (AreOf c.args.counts c.args.archs.now) (of.Merge c.args.merge.now) c.args.store.now c.carry_lists.new.store (Ok answer))
+      (sym c.merged.ensures)
       (merge_kept g.S.Store c.args.counts c.args.archs.now c.args.merge.now c.requires.texts c.of-sources.result c.in-Ok.parts.items
       (c.of-sources.ensures ∙ ap (λ text. begun (paragraphs_in (lines_of text))) c.as_slice-2.ensures)
       (λ machine own. subst (AllZip (IsPartOf (BeginsAt Stands) machine) c.in-Ok.parts.items) c.as_slice.ensures (c.in-Ok.ensures.value machine own))
