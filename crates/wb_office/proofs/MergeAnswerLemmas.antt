@@ -1,5 +1,5 @@
 -- What is answered to a merge of lists in memory, from what a merge of lists in a transaction makes.
-use Rattle.std.proofs.Common.{◌≡◌, ◌⊎◌, ◌∙◌, refl, sym, ap, subst, inl, inr, ℕ, ◌+◌, Bool, true, false, nat_le, List, Option, Some, None, Ok, Err, Vec}
+use Rattle.std.proofs.Common.{◌≡◌, ◌⊎◌, ◌∙◌, refl, sym, ap, subst, inl, inr, ℕ, ◌+◌, Bool, true, false, nat_le, List, [], ◌∷◌, Option, Some, None, Ok, Err, Vec}
 use Rattle.std.specs.List.{AllZip}
 use Rattle.std.specs.FinMap as map
 use Rattle.sqlite_trees.specs.declared.store.Store.{Ghosts}

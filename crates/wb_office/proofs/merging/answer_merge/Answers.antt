@@ -28,7 +28,7 @@ returns-in_err-replies g c = record {
 pub returns : goal.returns
 returns g c = record {
   answers = subst (λ answer. Answers g.S.Store (AreOf c.args.counts c.args.archs.now) (of.Merge c.args.merge.now) c.args.store.now c.carry_lists.new.store (Ok answer))
-      (sym c.merged.ensures)
+      (sym c.merged.ensures.value)
       (merge_kept g.S.Store c.args.counts c.args.archs.now c.args.merge.now c.requires.texts c.of-sources.result c.in-Ok.parts.items
       (c.of-sources.ensures ∙ ap (λ text. begun (paragraphs_in (lines_of text))) c.as_slice-2.ensures)
       (λ machine own. subst (AllZip (IsPartOf (BeginsAt Stands) machine) c.in-Ok.parts.items) c.as_slice.ensures (c.in-Ok.ensures.value machine own))
