@@ -192,7 +192,7 @@ fn number_of(word: Option<&str>) -> Result<usize> {
 }
 
 /// The lists of the files that the next words name.
-fn lists_of<F: FileHandle>(
+fn lists_of<F: FileHandle + AllocGlobal>(
     rt: &F,
     alloc: Global,
     words: &mut SplitWhitespace<'_>,

@@ -72,6 +72,11 @@ impl<'a, F: Files + Eprint> Lists for FileLists<'a, F> {
         }
     }
 
+    // A report is read past its buffer, in which there is nothing: that the read failed is reported by whoever asked for it.
+    fn read(list: &mut BufReader<FileList<'a, F>>, room: &mut [u8]) -> io::Result<usize> {
+        list.get_mut().file.read(room)
+    }
+
     fn report(&mut self, message: Message<'_>) {
         say(self.rt, message);
     }

@@ -16,7 +16,6 @@ use Rattle.wb_states.specs.declared.refusal.Refusal.{Refusal}
 use Rattle.wb_states.specs.declared.refusal.Refusal.TheVariants.{Closed, Store}
 use Rattle.wb_states.specs.declared.reply.Reply.{Reply}
 use Rattle.wb_states.specs.declared.store_fault.StoreFault.{StoreFault}
-use Rattle.wb_step.specs.Checks.{MayWantMemory}
 use Rattle.wb_step.proofs.CountedLemmas.{step-unchanged}
 use Rattle.wb_step.specs.Step.{step}
 use Rattle.wb_words.specs.Words.{invocation_in}
@@ -24,16 +23,15 @@ use Rattle.wb_words.specs.declared.fault.WordsFault.{WordsFault}
 use Rattle.wb_words.specs.declared.fault.WordsFault.TheVariants.{NoCommand, Memory}
 use Rattle.wb_words.specs.declared.words.Invocation.{Invocation}
 use Rattle.wb_words.specs.declared.words.Invocation.TheVariants.{Command as invocation_Command, Merge as invocation_Merge, Query as invocation_Query, Report as invocation_Report}
-use Rattle.wb_words.specs.declared.words.PartNames.{PartNames}
-use Rattle.wb_api.specs.Encoding.{line_fault_text, refusal_text, reply_text, is_plain, IsMemoryText}
+use Rattle.wb_api.specs.Encoding.{line_fault_text, refusal_text, is_plain, IsMemoryText}
 use Rattle.wb_api.specs.Queries.{query_text}
 use Rattle.wb_api.proofs.ExchangeLemmas.{found-formed, plain-query}
 use Rattle.deb_text.specs.Lines.{words_in, is_blank_line}
 use Rattle.wb_streams.specs.Line.{is_long, with_line_feed}
-use Rattle.wb_daemon.specs.Lists.{MayRead, MayReadMerge, MayReadReport, MayReadLess, LacksMerge, LacksReport}
-use Rattle.wb_step.specs.Offices.{Standing, InDoubt, Open, Shut}
-use Rattle.wb_daemon.specs.Run.{Asked, LineResponse, IsInvocationResponse, IsLineResponse, IsRefused, IsResponse, IsSaid, InvokesAs, Invokes, LineInvokes, IsRefusedByStore, IsResponseOfKind, LineKind, Blank, Fault, Request, answer_response, asked_by, command_response, found_response, kind_of_line, kind_of_invocation, invocation_of_line, line_fault_response, memory_response, needs_memory, query_response, refusal_response}
-use Rattle.wb_daemon.specs.Turn.{Answers, IsCommandResponseOrMemory, IsInvocationResponseOrMemory, IsMadeResponse, IsQueryResponseOrMemory, IsReadAs, AnswersInPart, IsWritten, TookEndedLine, TookLastLine, StopsAt, StopsTurn, Turns}
+use Rattle.wb_daemon.specs.Lists.{MayRead, MayReadReport, MayReadLess, LacksReport}
+use Rattle.wb_step.specs.Offices.{Standing, Open, Shut}
+use Rattle.wb_daemon.specs.Run.{Asked, LineResponse, IsInvocationResponse, IsLineResponse, IsRefused, IsResponse, IsSaid, InvokesAs, Invokes, IsRefusedByStore, IsResponseOfKind, LineKind, Blank, Fault, Request, answer_response, asked_by, command_response, found_response, kind_of_line, kind_of_invocation, invocation_of_line, line_fault_response, memory_response, needs_memory, refusal_response}
+use Rattle.wb_daemon.specs.Turn.{Answers, IsInvocationResponseOrMemory, IsMadeResponse, IsQueryResponseOrMemory, IsReadAs, AnswersInPart, IsWritten, TookEndedLine, TookLastLine, StopsAt, StopsTurn, Turns}
 use Rattle.wb_streams.specs.Streams.{AppendsFront}
 use Rattle.wb_daemon.specs.declared.answer.LineAnswer.{LineAnswer}
 use Rattle.wb_daemon.specs.declared.message.Cause.{Cause}
@@ -41,7 +39,8 @@ use Rattle.wb_daemon.specs.declared.message.Cause.TheVariants as why
 use Rattle.wb_daemon.specs.declared.run.Turn.{Turn}
 use Rattle.wb_daemon.specs.declared.run.Turn.TheVariants.{More, End, Stop}
 use Rattle.wb_streams.proofs.LineLemmas.{Appends-same}
-use Rattle.wb_daemon.proofs.ListLemmas.{MayReadParts-more, LacksMerge-more, LacksReport-more}
+use Rattle.wb_daemon.proofs.ListLemmas.{MayReadMerge-more, LacksMerge-more, LacksReport-more}
+use Rattle.wb_daemon.proofs.OpenedLemmas.{IsMergeAs-more}
 
 -- ---- the kind of a line
 
@@ -126,11 +125,6 @@ IsReadAs-line line (Err Memory) h k e none utf8 = needs_memory-read line h k (ut
 
 -- ---- lists that gave no more than they might
 
-MayReadMerge-more : (old new : MayRead) → MayReadLess old new → (sources : List ℕ) (names : List PartNames) (command : Command)
-    → MayReadMerge new sources names command → MayReadMerge old sources names command
-MayReadMerge-more old new m sources names command g =
-    (g.0, g.1, (m.0 sources g.0 g.2.0, g.2.1), MayReadParts-more old new m names g.1 g.3, g.4)
-
 MayReadReport-more : (old new : MayRead) → MayReadLess old new → (arch file : List ℕ) (command : Command)
     → MayReadReport new arch file command → MayReadReport old arch file command
 MayReadReport-more old new m arch file command g = (g.0, (m.0 file g.0 g.1.0, g.1.1), g.2, g.3)
@@ -146,7 +140,7 @@ IsInvocationResponse-more : (old new : MayRead) → MayReadLess old new → (mac
 IsInvocationResponse-more old new m machine (invocation_Command command) response h = h
 IsInvocationResponse-more old new m machine (invocation_Query query) response h = h
 IsInvocationResponse-more old new m machine (invocation_Merge sources parts) response (inl h) =
-    inl (h.0, MayReadMerge-more old new m sources parts h.0 h.1, h.2)
+    inl (h.0, IsMergeAs-more old new m sources parts machine h.0 h.1, h.2)
 IsInvocationResponse-more old new m machine (invocation_Merge sources parts) response (inr h) =
     inr (LacksMerge-more old new m sources parts h.0, h.1)
 IsInvocationResponse-more old new m machine (invocation_Report arch file) response (inl h) =
@@ -257,22 +251,6 @@ pub answers-long_cut : (may_read : MayRead) (line : List ℕ) (machine : Machine
 answers-long_cut may_read line machine old new h p =
     (line_fault_response machine, inl (IsLineResponse-kind may_read machine line Fault _ (kind_of_line-long line h) refl, refl), refl, p)
 
--- what may be said to the merge that lists gave, or if one of them is at fault
-pub merge-response : (may_read : MayRead) (machine : Machine) (invocation : Invocation) (sources : List ℕ) (parts : List PartNames) {E : Type 0}
-    (made : Result (Option Command) E) (response : LineResponse) → invocation ≡ invocation_Merge sources parts
-    → IfOk made (λ found. IfSome found (MayReadMerge may_read sources parts)) → IfOk made (λ found. IfNone found (LacksMerge may_read sources parts))
-    → IsMadeResponse made machine response → IsInvocationResponseOrMemory may_read machine invocation response
-merge-response may_read machine invocation sources parts made response is given lacks said =
-    subst (λ a. IsInvocationResponseOrMemory may_read machine a response) (sym is) (go made given lacks said)
-  where
-    go : {E : Type 0} (made : Result (Option Command) E) → IfOk made (λ found. IfSome found (MayReadMerge may_read sources parts))
-        → IfOk made (λ found. IfNone found (LacksMerge may_read sources parts)) → IsMadeResponse made machine response
-        → IsInvocationResponseOrMemory may_read machine (invocation_Merge sources parts) response
-    go (Ok (Some command)) given lacks (inl same) = inl (inl (command, given, same))
-    go (Ok (Some command)) given lacks (inr short) = inr (tt, short.1)
-    go (Ok None) given lacks said = inl (inr (lacks, said))
-    go (Err e) given lacks said = inr (tt, said)
-
 -- what may be said to the report that a file gave, or if it is at fault
 pub report-response : (may_read : MayRead) (machine : Machine) (invocation : Invocation) (arch file : List ℕ) {E : Type 0}
     (made : Result (Option Command) E) (response : LineResponse) → invocation ≡ invocation_Report arch file
@@ -301,31 +279,11 @@ said-same : {s t : List ℕ} {machine : Machine} → s ≡ t
     → ◌≡◌ {A = LineResponse} (record { text = with_line_feed s; machine = machine; status = 1 }) (record { text = with_line_feed t; machine = machine; status = 1 })
 said-same {s} {t} {machine} e = ap (λ x. record { text = with_line_feed x; machine = machine; status = 1 }) e
 
-refused-response : (machine : Machine) (command : Command) (refusal : Refusal) → (step machine command).0 ≡ Err refusal
+pub refused-response : (machine : Machine) (command : Command) (refusal : Refusal) → (step machine command).0 ≡ Err refusal
     → command_response machine command ≡ refusal_response machine refusal
 refused-response machine command refusal e =
     ap (λ (r : Result Reply Refusal). answer_response (name_of_command command) r (step machine command).1) e
     ∙ ap (answer_response (name_of_command command) (Err refusal)) (step-unchanged machine command refusal e)
-
--- a refusal that `step` gives is said, or that there is no memory for it
-pub refusal-said : (machine : Machine) (command : Command) (refusal : Refusal) (text : CowStr Global) → (step machine command).0 ≡ Err refusal
-    → (cow_str_bytes text ≡ refusal_text refusal) ⊎ IsMemoryText text → (is_plain refusal ≡ true → IsBorrowedStr text × (cow_str_bytes text ≡ refusal_text refusal))
-    → IsCommandResponseOrMemory machine command (record { text = with_line_feed (cow_str_bytes text); machine = machine; status = 1 })
-refusal-said machine command refusal text e (inl same) plain = inl (said-same same ∙ sym (refused-response machine command refusal e))
-refusal-said machine command refusal text e (inr short) plain =
-    (elim (is_plain refusal) as (λ b. is_plain refusal ≡ b
-    → IsCommandResponseOrMemory machine command (record { text = with_line_feed (cow_str_bytes text); machine = machine; status = 1 })) [
-      | true ↦ λ is. inl (said-same (plain is).1 ∙ sym (refused-response machine command refusal e))
-      | false ↦ λ is. inr (inl (inr (refusal, e, is)), said-same short.1)
-    ]) refl
-
--- a reply is said
-pub reply-said : (machine : Machine) (command : Command) (reply : Reply) (text : List ℕ) → (step machine command).0 ≡ Ok reply
-    → text ≡ reply_text (name_of_command command) reply
-    → IsCommandResponseOrMemory machine command (record { text = with_line_feed text; machine = (step machine command).1; status = 0 })
-reply-said machine command reply text e said =
-    inl (ap (λ t. record { text = with_line_feed t; machine = (step machine command).1; status = 0 }) said
-    ∙ sym (ap (λ (r : Result Reply Refusal). answer_response (name_of_command command) r (step machine command).1) e))
 
 -- the refusal of an office that is closed is said
 pub closed-said : (machine : Machine) (failed : StoreFault → Standing) (refusal : Refusal) (text : CowStr Global) → refusal ≡ Closed
@@ -340,11 +298,6 @@ pub store-said : (machine : Machine) (failed : StoreFault → Standing) (refusal
     → IsRefusedByStore machine failed (record { text = with_line_feed (cow_str_bytes text); machine = machine; status = 1 }) (failed fault)
 store-said machine failed refusal fault text e (inl same) = inr (fault, inl (said-same (same ∙ ap refusal_text e)), refl)
 store-said machine failed refusal fault text e (inr short) = inr (fault, inr (said-same short.1), refl)
-
--- that there is no memory is said to a command that may want some
-pub memory-said : (machine : Machine) (command : Command) (text : CowStr Global) → MayWantMemory command → IsMemoryText text
-    → IsCommandResponseOrMemory machine command (record { text = with_line_feed (cow_str_bytes text); machine = machine; status = 1 })
-memory-said machine command text wants short = inr (inl (inl wants), said-same short.1)
 
 -- ---- what is said to a query
 

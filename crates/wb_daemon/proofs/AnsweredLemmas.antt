@@ -1,5 +1,5 @@
 -- Each line that is answered is answered with one line.
-use Rattle.std.proofs.Common.{◌≡◌, ℕ, suc, Bool, true, false, not, ◌&&◌, ◌||◌, cond, List, [], ◌∷◌, ◌++◌, filter, length, Option, Some, None, Result, Ok, Err, inl, inr, refl, sym, ap, subst, ◌∙◌}
+use Rattle.std.proofs.Common.{◌≡◌, ℕ, suc, Bool, true, false, not, ◌&&◌, ◌||◌, cond, List, [], ◌∷◌, ◌++◌, filter, length, codes, Option, Some, None, Result, Ok, Err, inl, inr, refl, sym, ap, subst, ◌∙◌}
 use Rattle.std.specs.Str.{is_utf8}
 use Rattle.deb_text.specs.Lines.{IsOneLine, is_blank_line}
 use Rattle.wb_states.specs.Commands.{name_of_command}
@@ -18,8 +18,8 @@ use Rattle.wb_api.proofs.OneLineLemmas.{reply_text-one, refusal_text-one}
 use Rattle.wb_api.proofs.QueryLineLemmas.{query_text-one}
 use Rattle.wb_daemon.specs.Answered.{HasLines, is_answered}
 use Rattle.wb_streams.specs.Line.{is_long, with_line_feed}
-use Rattle.wb_daemon.specs.Lists.{MayRead, MayReadMerge, MayReadReport, LacksMerge, LacksReport}
-use Rattle.wb_daemon.specs.Run.{Fault, Runs, LineResponse, IsLineResponse, IsFilesResponse, IsInvocationResponse, IsResponseOfKind, Blank, answer_response, invocation_of_line, command_response, found_response, query_response, kind_of_line, kind_of_invocation}
+use Rattle.wb_daemon.specs.Lists.{MayRead}
+use Rattle.wb_daemon.specs.Run.{Fault, Runs, LineResponse, IsLineResponse, IsInvocationResponse, IsResponseOfKind, Blank, answer_response, file_fault_response, invocation_of_line, command_response, found_response, query_response, kind_of_line, kind_of_invocation}
 
 -- what is said to a line: nothing where it is not answered, else one line
 abbrev IsResponseTo : Bool → LineResponse → Type 0
@@ -45,15 +45,17 @@ found-one : (machine : Machine) (found : Result Answer Refusal) → IsResponseTo
 found-one machine (Ok found) = (query_text found, refl, query_text-one found)
 found-one machine (Err refusal) = (refusal_text refusal, refl, refusal_text-one refusal)
 
-files-one : (MayGive : Command → Type 0) (lacks : Type 0) (machine : Machine) (response : LineResponse) → IsFilesResponse MayGive lacks machine response → IsResponseTo true response
-files-one MayGive lacks machine response (inl h) = command-one machine h.0 response h.2
-files-one MayGive lacks machine response (inr h) = fixed-one file_fault_text response (ap (λ (s : LineResponse). s.text) h.1) refl
+file-one : (machine : Machine) (response : LineResponse) → response ≡ file_fault_response machine → IsResponseTo true response
+file-one machine response e = fixed-one file_fault_text response (ap (λ (s : LineResponse). s.text) e) refl
 
 invocation-one : (may_read : MayRead) (machine : Machine) (invocation : Invocation) (response : LineResponse) → IsInvocationResponse may_read machine invocation response → IsResponseTo true response
 invocation-one may_read machine (invocation_Command command) response e = command-one machine command response e
 invocation-one may_read machine (invocation_Query query) response e = same-one true (query_response machine query) response e (found-one machine (answer_of machine query))
-invocation-one may_read machine (invocation_Merge sources parts) response h = files-one (MayReadMerge may_read sources parts) (LacksMerge may_read sources parts) machine response h
-invocation-one may_read machine (invocation_Report arch file) response h = files-one (MayReadReport may_read arch file) (LacksReport may_read file) machine response h
+invocation-one may_read machine (invocation_Merge sources parts) response (inl h) =
+    same-one true (answer_response (codes "merge") h.0.0 h.0.1) response h.2 (answer-one (codes "merge") h.0.0 h.0.1)
+invocation-one may_read machine (invocation_Merge sources parts) response (inr h) = file-one machine response h.1
+invocation-one may_read machine (invocation_Report arch file) response (inl h) = command-one machine h.0 response h.2
+invocation-one may_read machine (invocation_Report arch file) response (inr h) = file-one machine response h.1
 
 kind-one : (may_read : MayRead) (machine : Machine) (long blank : Bool) (invocation : Option Invocation) (response : LineResponse)
     → IsResponseOfKind may_read machine (cond long Fault (cond blank Blank (kind_of_invocation invocation))) response → IsResponseTo (long || not blank) response

@@ -1,7 +1,9 @@
 pub mod AnswerLemmas
 pub mod AnsweredLemmas
 pub mod ListLemmas
+pub mod OpenedLemmas
 pub mod ReplayedLemmas
 pub mod RunLemmas
 pub mod SingleLemmas
+pub mod TellLemmas
 pub mod WordsLemmas

@@ -1,9 +1,10 @@
--- Lemmas on what lists may be read as, and on the parts of a merge.
+-- Lemmas on what files may be read as, and on the parts of a merge.
 use Rattle.std.proofs.Common.{ℕ, ◌<◌, inl, inr, List, [], ◌∷◌, length, Option, None, Some, refl, ap, arith, length-append}
 use Rattle.std.specs.Io.KnownBytes.{Consumes}
+use Rattle.wb_states.specs.declared.command.Command.{Command}
 use Rattle.wb_states.specs.declared.command.Part.{Part}
 use Rattle.wb_words.specs.declared.words.PartNames.{PartNames}
-use Rattle.wb_daemon.specs.Lists.{MayRead, MayReadLess, MayReadParts, IsAllOf, LacksList, LacksMerge, LacksPart, LacksReport, list_limit}
+use Rattle.wb_daemon.specs.Lists.{MayRead, MayReadLess, MayReadMerge, MayReadParts, IsAllOf, LacksList, LacksMerge, LacksPart, LacksReport, list_limit}
 
 pub MayReadLess-then : (a b c : MayRead) → MayReadLess a b → MayReadLess b c → MayReadLess a c
 MayReadLess-then a b c m n = (λ name bytes h. m.0 name bytes (n.0 name bytes h), λ name h. m.1 name (n.1 name h))
@@ -18,9 +19,21 @@ MayReadParts-more old new m [] [] g = g
 MayReadParts-more old new m [] (part ∷ parts) g = g
 MayReadParts-more old new m (name ∷ names) [] g = g
 MayReadParts-more old new m (name ∷ names) (part ∷ parts) g =
-    ((g.0.0, (m.0 name.packages part.packages g.0.1.0, g.0.1.1)), MayReadParts-more old new m names parts g.1)
+    ((g.0.0, m.0 name.packages part.packages g.0.1), MayReadParts-more old new m names parts g.1)
 
--- a list that is at fault later might be at fault before
+pub MayReadMerge-more : (old new : MayRead) → MayReadLess old new → (sources : List ℕ) (names : List PartNames) (command : Command)
+    → MayReadMerge new sources names command → MayReadMerge old sources names command
+MayReadMerge-more old new m sources names command g = record {
+  text = g.text;
+  reads = m.0 sources g.text g.reads;
+  parts = g.parts;
+  are = MayReadParts-more old new m names g.parts g.are;
+  others = g.others;
+  stand = g.stand;
+  is = g.is;
+}
+
+-- a file that is at fault later might be at fault before
 pub LacksList-more : (old new : MayRead) → MayReadLess old new → (name : List ℕ) → LacksList new name → LacksList old name
 LacksList-more old new m name (inl h) = inl (m.1 name h)
 LacksList-more old new m name (inr h) = inr (h.0, m.0 name h.0 h.1, h.2)
@@ -33,20 +46,19 @@ LacksPart-more old new m names h = record {
   parts = h.parts;
   is = h.is;
   given = MayReadParts-more old new m h.before h.parts h.given;
-  lacks = LacksList-more old new m h.name.packages h.lacks;
+  lacks = m.1 h.name.packages h.lacks;
 }
 
 pub LacksMerge-more : (old new : MayRead) → MayReadLess old new → (sources : List ℕ) (names : List PartNames)
     → LacksMerge new sources names → LacksMerge old sources names
-LacksMerge-more old new m sources names (inl h) = inl (LacksList-more old new m sources h)
-LacksMerge-more old new m sources names (inr h) =
-    inr (h.0, (m.0 sources h.0 h.1.0, h.1.1), LacksPart-more old new m names h.2)
+LacksMerge-more old new m sources names (inl h) = inl (m.1 sources h)
+LacksMerge-more old new m sources names (inr h) = inr (h.0, m.0 sources h.0 h.1, LacksPart-more old new m names h.2)
 
 pub LacksReport-more : (old new : MayRead) → MayReadLess old new → (file : List ℕ) → LacksReport new file → LacksReport old file
 LacksReport-more old new m file (inl h) = inl (LacksList-more old new m file h)
 LacksReport-more old new m file (inr h) = inr (h.0, (m.0 file h.0 h.1.0, h.1.1), h.2)
 
--- a list of which more bytes were read than a list may have
+-- a file of which more bytes were read than a report may have
 pub too_long : (known left : Option (List ℕ)) (bytes : List ℕ) → list_limit < length bytes → Consumes known left bytes
     → (all : List ℕ) × IsAllOf known all × (list_limit < length all)
 too_long None left bytes h p = (bytes, tt, h)

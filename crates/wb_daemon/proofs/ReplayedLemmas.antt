@@ -1,5 +1,6 @@
 -- Lemmas on the commands that lines have the office carry out.
-use Rattle.std.proofs.Common.{◌≡◌, ℕ, List, [], ◌∷◌, ◌++◌, take, drop, Option, Result, Ok, Err, ◌⊎◌, inl, inr, refl, sym, ap, ◌∙◌, subst, append-nil, append_assoc, take-append-drop}
+use Rattle.std.proofs.Common.{◌≡◌, ℕ, List, [], ◌∷◌, ◌++◌, take, drop, Option, Result, Ok, Err, ◌⊎◌, inl, inr, refl, sym, ap, ◌∙◌, subst, append-nil, append_assoc, take-append-drop, codes}
+use Rattle.std.proofs.Math.Nat.{max-zero, zero-max}
 use Rattle.wb_states.specs.Commands.{name_of_command}
 use Rattle.wb_states.specs.Machine.{Machine}
 use Rattle.wb_states.specs.declared.command.Command.{Command}
@@ -15,12 +16,13 @@ use Rattle.wb_daemon.specs.Lists.{MayRead}
 use Rattle.wb_states.specs.Queries.{answer_of}
 use Rattle.wb_states.specs.declared.query.Answer.{Answer}
 use Rattle.wb_states.specs.declared.query.Query.{Query}
-use Rattle.wb_step.specs.Offices.{Standing, Open, Shut, InDoubt, Failed, IsSoOfEach}
-use Rattle.wb_daemon.specs.Replays.{IsReplay, IsReplayCut, IsReplayRefused, LeavesReplay, IsResponseWithoutReply}
-use Rattle.wb_daemon.specs.Run.{Asked, Request, InvokesAs, Invokes, EndsInput, Fault, LineKind, LineInvokes, Runs, LineResponse, IsFilesResponse, IsInvocationResponse, IsLineResponse, IsRefused, IsRefusedByStore, IsResponse, IsResponseOfKind, IsSaid, Blank, RunStopsFor, StopsInLine, answer_response, asked_by, command_response, file_fault_response, followed, found_response, kind_of_line, no_response, query_response}
+use Rattle.wb_step.specs.Offices.{Standing, Open, InDoubt, Failed, IsSoOfEach}
+use Rattle.wb_daemon.specs.Replays.{IsAnswerTo, IsReplay, IsReplayCut, IsReplayRefused, LeavesReplay, IsResponseWithoutReply}
+use Rattle.wb_daemon.specs.Run.{Asked, Request, InvokesAs, Invokes, EndsInput, Fault, LineKind, LineInvokes, Runs, LineResponse, IsInvocationResponse, IsLineResponse, IsRefused, IsRefusedByStore, IsResponse, IsResponseOfKind, IsSaid, Blank, RunStopsFor, StopsInLine, answer_response, asked_by, command_response, file_fault_response, followed, found_response, kind_of_line, no_response, query_response}
 use Rattle.wb_daemon.specs.declared.message.Cause.{Cause}
 use Rattle.wb_daemon.specs.declared.message.Cause.TheVariants as why
-use Rattle.wb_daemon.proofs.RunLemmas.{Runs-snoc}
+use Rattle.wb_daemon.proofs.OpenedLemmas.{merge-command}
+use Rattle.wb_daemon.proofs.RunLemmas.{Runs-snoc, max_assoc, response-same}
 
 answer_response-machine : (name : List ℕ) (result : Result Reply Refusal) (after : Machine) → (answer_response name result after).machine ≡ after
 answer_response-machine name (Ok reply) after = refl
@@ -38,24 +40,32 @@ query_response-machine machine query = found_response-machine machine (answer_of
 
 -- ---- what was asked
 
+response-machine : (one response : LineResponse) (machine : Machine) → response ≡ one → one.machine ≡ machine → response.machine ≡ machine
+response-machine one response machine e is = ap (λ (s : LineResponse). s.machine) e ∙ is
+
+-- what is said to a command leaves the office as its step does
+answer-machine : (may_read : MayRead) (machine : Machine) (kind : LineKind) (command : Command) (response : LineResponse)
+    → IsAnswerTo may_read machine kind command response → response.machine ≡ (step machine command).1
+answer-machine may_read machine kind command response (inl e) = response-machine _ response _ e (command_response-machine machine command)
+answer-machine may_read machine kind command response (inr h) = h.4
+
 -- what is said to what is asked for is the answer to a command, or to a query, or a file of it is at fault
 abbrev Carries : MayRead → Machine → Invocation → LineResponse → Type 0
 Carries may_read machine invocation response =
-    ((command : Command) × InvokesAs may_read invocation command × (response ≡ command_response machine command))
+    ((command : Command) × InvokesAs may_read invocation command × IsAnswerTo may_read machine (Request invocation) command response)
     ⊎ (((query : Query) × (invocation ≡ invocation_Query query) × (response ≡ query_response machine query))
     ⊎ (response ≡ file_fault_response machine))
 
 invocation-carries : (may_read : MayRead) (machine : Machine) (invocation : Invocation) (response : LineResponse)
     → IsInvocationResponse may_read machine invocation response → Carries may_read machine invocation response
-invocation-carries may_read machine (invocation_Command command) response h = inl (command, refl, h)
+invocation-carries may_read machine (invocation_Command command) response h = inl (command, refl, inl h)
 invocation-carries may_read machine (invocation_Query query) response h = inr (inl (query, refl, h))
-invocation-carries may_read machine (invocation_Merge sources parts) response (inl h) = inl (h.0, h.1, h.2)
+invocation-carries may_read machine (invocation_Merge sources parts) response (inl h) =
+    let left = merge-command may_read sources parts machine h.0 h.1 in
+    inl (left.0, left.1.0, inr (sources, parts, refl, h, response-machine _ response _ h.2 (answer_response-machine (codes "merge") h.0.0 h.0.1 ∙ left.1.1.0)))
 invocation-carries may_read machine (invocation_Merge sources parts) response (inr h) = inr (inr h.1)
-invocation-carries may_read machine (invocation_Report arch file) response (inl h) = inl (h.0, h.1, h.2)
+invocation-carries may_read machine (invocation_Report arch file) response (inl h) = inl (h.0, h.1, inl h.2)
 invocation-carries may_read machine (invocation_Report arch file) response (inr h) = inr (inr h.1)
-
-response-machine : (one response : LineResponse) (machine : Machine) → response ≡ one → one.machine ≡ machine → response.machine ≡ machine
-response-machine one response machine e is = ap (λ (s : LineResponse). s.machine) e ∙ is
 
 -- what is said to what was asked leaves the office as it was, or as its command leaves it
 abbrev LeavesAsked : MayRead → Machine → LineKind → LineResponse → Type 0
@@ -66,7 +76,7 @@ LeavesAsked may_read machine kind response =
 carries-leaves : (may_read : MayRead) (machine : Machine) (invocation : Invocation) (response : LineResponse) → Carries may_read machine invocation response
     → LeavesAsked may_read machine (Request invocation) response
 carries-leaves may_read machine invocation response (inl (command, invokes, e)) =
-    inr (command, (invocation, refl, invokes), response-machine _ response _ e (command_response-machine machine command))
+    inr (command, (invocation, refl, invokes), answer-machine may_read machine (Request invocation) command response e)
 carries-leaves may_read machine invocation response (inr (inl (query, is, e))) = inl (response-machine _ response machine e (query_response-machine machine query))
 carries-leaves may_read machine invocation response (inr (inr e)) = inl (response-machine _ response machine e refl)
 
@@ -110,7 +120,8 @@ refused-leaves_each may_read IsSo before after asked response standing (invocati
 -- what is said to a line is the answer to a command that it asks for, or nothing was carried out
 abbrev LineCarries : MayRead → Machine → List ℕ → LineResponse → Type 0
 LineCarries may_read machine line response =
-    IsResponseWithoutReply machine line response ⊎ ((command : Command) × LineInvokes may_read line command × (response ≡ command_response machine command))
+    IsResponseWithoutReply machine line response
+    ⊎ ((command : Command) × LineInvokes may_read line command × IsAnswerTo may_read machine (kind_of_line line) command response)
 
 kind-carries : (may_read : MayRead) (machine : Machine) (line : List ℕ) (response : LineResponse) (kind : LineKind) → kind_of_line line ≡ kind
     → IsResponseOfKind may_read machine kind response → LineCarries may_read machine line response
@@ -118,7 +129,11 @@ kind-carries may_read machine line response Blank e h = inl (inl (inl h))
 kind-carries may_read machine line response Fault e h = inl (inl (inr h))
 kind-carries may_read machine line response (Request invocation) e h =
     elim (invocation-carries may_read machine invocation response h) [
-      | inl (command, invokes, same) ↦ inr (command, (invocation, e, invokes), same)
+      | inl (command, invokes, said) ↦ inr (
+        command,
+        (invocation, e, invokes),
+        subst (λ (k : LineKind). IsAnswerTo may_read machine k command response) (sym e) said,
+      )
       | inr (inl (query, is, same)) ↦ inl (inr (inr (inr (query, e ∙ ap Request is, same))))
       | inr (inr same) ↦ inl (inr (inl same))
     ]
@@ -143,13 +158,13 @@ no_command_more may_read machine line lines whole response later e none rest =
     (rest.0, (response, later, e, inl (none, rest.1)), ap (λ (s : LineResponse). s.machine) e ∙ rest.2)
 
 command_more : (may_read : MayRead) (machine : Machine) (line : List ℕ) (lines : List (List ℕ)) (whole response later : LineResponse) → whole ≡ followed response later
-    → (command : Command) → LineInvokes may_read line command → response ≡ command_response machine command
+    → (command : Command) → LineInvokes may_read line command → IsAnswerTo may_read machine (kind_of_line line) command response
     → IsReplay may_read response.machine lines later → IsReplay may_read machine (line ∷ lines) whole
-command_more may_read machine line lines whole response later e command invokes same rest = (
+command_more may_read machine line lines whole response later e command invokes said rest = (
   command ∷ rest.0,
-  (response, later, e, inr (command, rest.0, refl, invokes, same, rest.1)),
+  (response, later, e, inr (command, rest.0, refl, invokes, said, rest.1)),
   ap (λ (s : LineResponse). s.machine) e ∙ rest.2
-      ∙ ap (λ m. replay m rest.0) (ap (λ (s : LineResponse). s.machine) same ∙ command_response-machine machine command),
+      ∙ ap (λ m. replay m rest.0) (answer-machine may_read machine (kind_of_line line) command response said),
 )
 
 -- what lines are answered with, and what they leave, comes of the commands that they ask for
@@ -163,17 +178,39 @@ Runs-replay may_read (line ∷ lines) machine whole h = elim (IsLineResponse-car
 
 -- ---- a run that was cut off
 
-IsInvocationResponse-command : (may_read : MayRead) (machine : Machine) (invocation : Invocation) (command : Command) → InvokesAs may_read invocation command
-    → IsInvocationResponse may_read machine invocation (command_response machine command)
-IsInvocationResponse-command may_read machine (invocation_Command invocation) command h = ap (command_response machine) h
-IsInvocationResponse-command may_read machine (invocation_Query query) command h = absurd h
-IsInvocationResponse-command may_read machine (invocation_Merge sources parts) command h = inl (command, h, refl)
-IsInvocationResponse-command may_read machine (invocation_Report arch file) command h = inl (command, h, refl)
+-- one answer and others, and then that to a command
+followed-then : (answered response later : LineResponse) (command : Command) → answered ≡ followed response later
+    → followed answered (command_response answered.machine command) ≡ followed response (followed later (command_response later.machine command))
+followed-then answered response later command e =
+    let reply = command_response later.machine command in
+    ap (λ (s : LineResponse). followed s (command_response s.machine command)) e
+    ∙ response-same {m = reply.machine} (append_assoc response.text later.text reply.text) (max_assoc response.status later.status reply.status)
 
-LineInvokes-responds : (may_read : MayRead) (machine : Machine) (line : List ℕ) (command : Command) → LineInvokes may_read line command
-    → IsLineResponse may_read machine line (command_response machine command)
-LineInvokes-responds may_read machine line command h =
-    inl (subst (λ (x : LineKind). IsResponseOfKind may_read machine x (command_response machine command)) (sym h.1) (IsInvocationResponse-command may_read machine h.0 command h.2))
+-- lines, and then one that asks for a command
+IsReplay-snoc : (may_read : MayRead) (earlier : List (List ℕ)) (machine : Machine) (answered : LineResponse) (last : List ℕ) (command : Command)
+    → IsReplay may_read machine earlier answered → LineInvokes may_read last command
+    → IsReplay may_read machine (earlier ++ last ∷ []) (followed answered (command_response answered.machine command))
+IsReplay-snoc may_read [] machine answered last command (commands, (none, nothing), is) invokes =
+    let reply = command_response machine command in
+    subst (λ (whole : LineResponse). IsReplay may_read machine (last ∷ []) (followed whole (command_response whole.machine command))) (sym none)
+    (command_more may_read machine last [] (followed (no_response machine) reply) reply (no_response reply.machine)
+    (response-same {m = reply.machine} (sym (append-nil reply.text)) (zero-max reply.status ∙ sym (max-zero reply.status)))
+    command invokes (inl refl) ([], (refl, refl), refl))
+IsReplay-snoc may_read (line ∷ lines) machine answered last command (commands, (response, later, e, inl (none, rest)), is) invokes =
+    let reply = command_response later.machine command in
+    no_command_more may_read machine line (lines ++ last ∷ []) (followed answered (command_response answered.machine command)) response (followed later reply)
+    (followed-then answered response later command e) none
+    (IsReplay-snoc may_read lines machine later last command (commands, rest, sym (ap (λ (s : LineResponse). s.machine) e) ∙ is) invokes)
+IsReplay-snoc may_read (line ∷ lines) machine answered last command (commands, (response, later, e, inr (first, others, are, asks, said, rest)), is) invokes =
+    let reply = command_response later.machine command in
+    command_more may_read machine line (lines ++ last ∷ []) (followed answered (command_response answered.machine command)) response (followed later reply)
+    (followed-then answered response later command e) first asks said
+    (IsReplay-snoc may_read lines response.machine later last command (
+      others,
+      rest,
+      sym (ap (λ (s : LineResponse). s.machine) e) ∙ is ∙ ap (replay machine) are
+          ∙ ap (λ m. replay m others) (sym (answer-machine may_read machine (kind_of_line line) first response said)),
+    ) invokes)
 
 -- the lines that were acted on, with what is said to the last of them
 snoc-replay : (may_read : MayRead) (lines earlier : List (List ℕ)) (last : List ℕ) (machine : Machine) (answered response : LineResponse) → lines ≡ earlier ++ last ∷ []
@@ -181,6 +218,14 @@ snoc-replay : (may_read : MayRead) (lines earlier : List (List ℕ)) (last : Lis
 snoc-replay may_read lines earlier last machine answered response e runs responds =
     subst (λ l. IsReplay may_read machine l (followed answered response)) (sym e)
     (Runs-replay may_read (earlier ++ last ∷ []) machine (followed answered response) (Runs-snoc may_read earlier machine answered last response runs responds))
+
+-- the lines that were acted on, the last of which asks for a command
+snoc-asked : (may_read : MayRead) (lines earlier : List (List ℕ)) (last : List ℕ) (machine : Machine) (answered : LineResponse) (command : Command)
+    → lines ≡ earlier ++ last ∷ [] → Runs may_read machine earlier answered → LineInvokes may_read last command
+    → IsReplay may_read machine lines (followed answered (command_response answered.machine command))
+snoc-asked may_read lines earlier last machine answered command e runs invokes =
+    subst (λ l. IsReplay may_read machine l (followed answered (command_response answered.machine command))) (sym e)
+    (IsReplay-snoc may_read earlier machine answered last command (Runs-replay may_read earlier machine answered runs) invokes)
 
 -- what is said to the last of the lines that were acted on
 said-replay : (may_read : MayRead) (lines earlier : List (List ℕ)) (last : List ℕ) (machine : Machine) (answered response : LineResponse) (standing : Standing)
@@ -210,7 +255,7 @@ StopsInLine-replay may_read seen left machine text after standing (inr (inl (lin
       followed s.answered response,
       response.text,
       acted,
-      inl (snoc-replay may_read lines s.earlier s.last machine s.answered response s.parts s.runs (LineInvokes-responds may_read s.answered.machine s.last s.command s.invokes), still),
+      inl (snoc-asked may_read lines s.earlier s.last machine s.answered s.command s.parts s.runs s.invokes, still),
       s.accepted.1 ∙ sym (command_response-machine s.answered.machine s.command),
       ap (λ t. t ++ response.text) (sym s.unwritten),
     )
@@ -243,7 +288,7 @@ refused-leaves may_read earlier last before after answered response standing run
     (λ command invokes. let reply = command_response answered.machine command in (
       earlier ++ last ∷ [],
       followed answered reply,
-      snoc-replay may_read (earlier ++ last ∷ []) earlier last before answered reply refl runs (LineInvokes-responds may_read answered.machine last command invokes),
+      snoc-asked may_read (earlier ++ last ∷ []) earlier last before answered command refl runs invokes,
       sym (command_response-machine answered.machine command),
     ))
 
@@ -265,10 +310,12 @@ RunStopsFor-leaves may_read why.Read input left old new before after standing h 
 RunStopsFor-leaves may_read why.Write input left old new before after standing (seen, text, read, wrote, (lines, acted, s)) =
     said-leaves may_read lines s.earlier s.last before after s.answered s.response standing s.parts s.runs s.responds s.office
 RunStopsFor-leaves may_read why.Reply input left old new before after standing (seen, text, read, wrote, (lines, acted, s, still)) =
-    let response = command_response s.answered.machine s.command in
-    said-leaves may_read lines s.earlier s.last before after s.answered response standing s.parts s.runs
-    (inl (LineInvokes-responds may_read s.answered.machine s.last s.command s.invokes, still))
-    (s.accepted.1 ∙ sym (command_response-machine s.answered.machine s.command))
+    subst (λ s. IsSoOfEach (LeavesReplay may_read before) after s) (sym still) (
+      lines,
+      followed s.answered (command_response s.answered.machine s.command),
+      snoc-asked may_read lines s.earlier s.last before s.answered s.command s.parts s.runs s.invokes,
+      s.accepted.1 ∙ sym (command_response-machine s.answered.machine s.command),
+    )
 RunStopsFor-leaves may_read why.Store input left old new before after standing (seen, text, read, wrote, (lines, acted, s)) =
     refused-leaves may_read s.earlier s.last before after s.answered s.response standing s.runs s.refused s.office
 RunStopsFor-leaves may_read why.Lines input left old new before after standing h =

@@ -105,11 +105,12 @@ ended_in-with_line_feeds lines line a h =
 
 -- ---- one line more
 
-response-same : {s t : List ℕ} {m : Machine} {j k : ℕ} → s ≡ t → j ≡ k
+-- the same text and status are the same response
+pub response-same : {s t : List ℕ} {m : Machine} {j k : ℕ} → s ≡ t → j ≡ k
     → ◌≡◌ {A = LineResponse} (record { text = s; machine = m; status = j }) (record { text = t; machine = m; status = k })
 response-same {s} {t} {m} {j} {k} p q = ap (λ x. record { text = x; machine = m; status = j }) p ∙ ap (λ n. record { text = t; machine = m; status = n }) q
 
-max_assoc : (i j k : ℕ) → max (max i j) k ≡ max i (max j k)
+pub max_assoc : (i j k : ℕ) → max (max i j) k ≡ max i (max j k)
 max_assoc i j k = omega arith
 
 pub Runs-snoc : (may_read : MayRead) (lines : List (List ℕ)) (machine : Machine) (whole : LineResponse) (line : List ℕ) (response : LineResponse)

@@ -1,5 +1,5 @@
 -- How long words are together, with a space between each two; and what the words of a single command are read as.
-use Rattle.std.proofs.Common.{◌≡◌, ◌∙◌, ℕ, ◌+◌, ◌<◌, ◌≤◌, suc, true, false, not, ◌&&◌, cond, List, [], ◌∷◌, ◌++◌, length, map, take, take_all, drop, get_or, codes, Some, None, Result, Ok, Err, IfOk, IfErr, refl, sym, ap, arith, add-one, length-append, take-append-drop}
+use Rattle.std.proofs.Common.{◌≡◌, ◌∙◌, ℕ, ◌+◌, ◌<◌, ◌≤◌, true, false, not, ◌&&◌, cond, List, [], ◌∷◌, ◌++◌, length, map, take, take_all, drop, get_or, codes, Some, None, Result, Ok, Err, IfOk, IfErr, refl, sym, ap, arith, add-one, length-append, take-append-drop}
 use Rattle.std.proofs.Math.Bool.{and-false}
 use Rattle.std.proofs.Math.Seq.{take-suc}
 use Rattle.std.proofs.lemmas.Bool.{false≢true}

@@ -3,18 +3,28 @@ use Rattle.std.specs.Prelude.{◌≡◌, ℕ, ◌⊎◌, List, [], ◌∷◌, �
 use Rattle.wb_states.specs.Machine.{Machine}
 use Rattle.wb_states.specs.declared.command.Command.{Command}
 use Rattle.wb_step.specs.Replay.{replay}
+use Rattle.wb_step.specs.Step.{step}
 use Rattle.wb_daemon.specs.Lists.{MayRead}
 use Rattle.wb_step.specs.Offices.{Standing, Open}
 use Rattle.wb_states.specs.declared.query.Query.{Query}
-use Rattle.wb_daemon.specs.Run.{LineResponse, LineInvokes, IsRefused, WereActedOn, Request, asked_by, command_response, line_fault_response, file_fault_response, followed, kind_of_line, memory_response, no_response, query_response}
-use Rattle.wb_words.specs.declared.words.Invocation.TheVariants.{Query as invocation_Query}
+use Rattle.wb_daemon.specs.Run.{LineKind, LineResponse, LineInvokes, IsMergeResponse, IsRefused, WereActedOn, Request, asked_by, command_response, line_fault_response, file_fault_response, followed, kind_of_line, memory_response, no_response, query_response}
+use Rattle.wb_words.specs.declared.words.Invocation.TheVariants.{Merge as invocation_Merge, Query as invocation_Query}
+use Rattle.wb_words.specs.declared.words.PartNames.{PartNames}
 
--- nothing is carried out for a line: it is blank, or at fault, or a list of it cannot be read, or there is no memory for it, or it asks a query
+-- nothing is carried out for a line: it is blank, or at fault, or a file of it is at fault, or there is no memory for it, or it asks a query
 abbrev pub IsResponseWithoutReply : Machine → List ℕ → LineResponse → Type 0
 IsResponseWithoutReply machine line response =
     ((response ≡ no_response machine) ⊎ (response ≡ line_fault_response machine))
     ⊎ ((response ≡ file_fault_response machine) ⊎ ((response ≡ memory_response machine)
     ⊎ ((query : Query) × (kind_of_line line ≡ Request (invocation_Query query)) × (response ≡ query_response machine query))))
+
+-- what is said to a line of this kind which asks for this command: what is said to the command; or, to a merge, what may be said to that, which leaves the office as
+-- the command does
+abbrev pub IsAnswerTo : MayRead → Machine → LineKind → Command → LineResponse → Type 0
+IsAnswerTo may_read machine kind command response =
+    (response ≡ command_response machine command)
+    ⊎ ((sources : List ℕ) × (names : List PartNames) × (kind ≡ Request (invocation_Merge sources names))
+    × IsMergeResponse may_read sources names machine response × (response.machine ≡ (step machine command).1))
 
 -- the commands that lines have the office carry out, in their order: a line gives one, or none
 abbrev pub CarriesOut : MayRead → Machine → List (List ℕ) → LineResponse → List Command → Type 0
@@ -23,7 +33,7 @@ CarriesOut may_read machine (line ∷ lines) whole commands =
     (response later : LineResponse) × (whole ≡ followed response later)
     × ((IsResponseWithoutReply machine line response × CarriesOut may_read machine lines later commands)
     ⊎ ((command : Command) × (others : List Command) × (commands ≡ command ∷ others)
-    × LineInvokes may_read line command × (response ≡ command_response machine command)
+    × LineInvokes may_read line command × IsAnswerTo may_read machine (kind_of_line line) command response
     × CarriesOut may_read response.machine lines later others))
 
 -- what lines leave is what the commands that they have the office carry out leave

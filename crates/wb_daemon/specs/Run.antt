@@ -1,5 +1,5 @@
 -- What a run over the lines of an input writes, and what it leaves of the office.
-use Rattle.std.specs.Prelude.{◌≡◌, ℕ, ◌<◌, max, Bool, true, not, ◌&&◌, ◌⊎◌, if◌then◌else◌, List, [], ◌∷◌, ◌++◌, length, take, Option, None, Some, IsTrue, IsOk, Result, Ok, Err}
+use Rattle.std.specs.Prelude.{◌≡◌, ℕ, ◌<◌, max, Bool, true, not, ◌&&◌, ◌⊎◌, if◌then◌else◌, List, [], ◌∷◌, ◌++◌, length, take, codes, Option, None, Some, IsTrue, Result, Ok, Err}
 use Rattle.std.specs.List.{list_any}
 use Rattle.std.specs.Str.{is_utf8}
 use Rattle.std.specs.Io.KnownBytes.{Appends, Consumes, IsAtEnd}
@@ -7,13 +7,15 @@ use Rattle.wb_states.specs.Commands.{name_of_command}
 use Rattle.wb_states.specs.Machine.{Machine}
 use Rattle.wb_states.specs.Queries.{answer_of}
 use Rattle.wb_states.specs.declared.command.Command.{Command}
+use Rattle.wb_states.specs.declared.command.Part.{Part}
 use Rattle.wb_states.specs.declared.query.Answer.{Answer}
 use Rattle.wb_states.specs.declared.query.Query.{Query}
 use Rattle.wb_states.specs.declared.refusal.Refusal.{Refusal}
 use Rattle.wb_states.specs.declared.refusal.Refusal.TheVariants.{Closed, Store}
 use Rattle.wb_states.specs.declared.reply.Reply.{Reply}
 use Rattle.wb_states.specs.declared.store_fault.StoreFault.{StoreFault}
-use Rattle.wb_step.specs.Step.{step}
+use Rattle.wb_step.specs.Step.{Outcome, step}
+use Rattle.wb_archive.specs.Readers.{IsMergeOfTexts}
 use Rattle.wb_words.specs.Words.{invocation_in}
 use Rattle.wb_words.specs.declared.words.Invocation.{Invocation}
 use Rattle.wb_words.specs.declared.words.Invocation.TheVariants.{Command as invocation_Command, Merge as invocation_Merge, Query as invocation_Query, Report as invocation_Report}
@@ -23,13 +25,13 @@ use Rattle.wb_api.specs.Queries.{query_text}
 use Rattle.deb_text.specs.Lines.{words_in, is_blank_line}
 use Rattle.wb_streams.specs.Line.{is_long, input_lines, ended_in, with_line_feed}
 use Rattle.wb_daemon.specs.Limits.{lines_limit, AreWithinLimit}
-use Rattle.wb_daemon.specs.Lists.{MayRead, MayReadMerge, MayReadReport, IsAllOf, LacksMerge, LacksReport}
+use Rattle.wb_daemon.specs.Lists.{MayRead, MayReadMerge, MayReadParts, MayReadReport, IsAllOf, LacksMerge, LacksReport}
 use Rattle.wb_step.specs.Offices.{Accepts, Standing, Open, Shut, InDoubt, Failed}
 use Rattle.wb_streams.specs.Streams.{Stream}
 use Rattle.wb_daemon.specs.declared.message.Cause.{Cause}
 use Rattle.wb_daemon.specs.declared.message.Cause.TheVariants as why
 
--- what is said to lines: the text, the office after it, and the status: 0 accepted, 1 refused, 2 no command, 3 a list that cannot be read
+-- what is said to lines: the text, the office after it, and the status: 0 accepted, 1 refused, 2 no command, 3 a list that cannot be opened, or a report that cannot be read
 pub record LineResponse : Type 0 where
   pub text : List ℕ
   pub machine : Machine
@@ -43,7 +45,7 @@ no_response machine = record { text = []; machine = machine; status = 0 }
 abbrev pub line_fault_response : Machine → LineResponse
 line_fault_response machine = record { text = with_line_feed line_fault_text; machine = machine; status = 2 }
 
--- a list that a line names cannot be read, which changes nothing
+-- a list that a line names cannot be opened, or its report cannot be read, which changes nothing
 abbrev pub file_fault_response : Machine → LineResponse
 file_fault_response machine = record { text = with_line_feed file_fault_text; machine = machine; status = 3 }
 
@@ -95,7 +97,7 @@ kind_of_line line =
     if is_long line then Fault
     else (if is_blank_line line then Blank else kind_of_invocation (invocation_of_line line))
 
--- what is asked for is this command, or the merge or the report that its files may be read as
+-- what is asked for is this command, or the merge that its lists may be read as, of which some could not be read on, or the report that its file may be read as
 abbrev pub InvokesAs : MayRead → Invocation → Command → Type 0
 InvokesAs may_read (invocation_Command invocation) command = command ≡ invocation
 InvokesAs may_read (invocation_Query query) command = ⊥
@@ -115,20 +117,30 @@ IsInvocationRefused may_read before invocation response standing =
     ((query : Query) × (invocation ≡ invocation_Query query) × IsRefusedByStore before Failed response standing)
     ⊎ ((command : Command) × InvokesAs may_read invocation command × IsRefusedByStore before (InDoubt command) response standing)
 
--- what may be said if files are read for a command: what is said to the command that they gave, or that one of them is at fault
-abbrev pub IsFilesResponse : (Command → Type 0) → Type 0 → Machine → LineResponse → Type 0
-IsFilesResponse MayGive lacks machine response =
-    ((command : Command) × MayGive command × (response ≡ command_response machine command))
-    ⊎ (lacks × (response ≡ file_fault_response machine))
+-- a merge of the lists that a line names came to this: that of bytes that they may be read as, of which some could not be read on
+pub record IsMergeAs (may_read : MayRead) (sources : List ℕ) (names : List PartNames) (machine : Machine) (outcome : Outcome) : Type 0 where
+  pub text : List ℕ
+  pub reads : may_read.reads sources text
+  pub parts : List Part
+  pub are : MayReadParts may_read names parts
+  pub comes : IsMergeOfTexts text parts machine outcome
 
--- what may be said to what a line asks for
+-- what may be said to a merge of the lists that a line names, once they were opened
+abbrev pub IsMergeResponse : MayRead → List ℕ → List PartNames → Machine → LineResponse → Type 0
+IsMergeResponse may_read sources names machine response =
+    (outcome : Outcome) × IsMergeAs may_read sources names machine outcome
+    × (response ≡ answer_response (codes "merge") outcome.0 outcome.1)
+
+-- what may be said to what a line asks for: to a merge or a report that one of its files is at fault, too
 abbrev pub IsInvocationResponse : MayRead → Machine → Invocation → LineResponse → Type 0
 IsInvocationResponse may_read machine (invocation_Command command) response = response ≡ command_response machine command
 IsInvocationResponse may_read machine (invocation_Query query) response = response ≡ query_response machine query
 IsInvocationResponse may_read machine (invocation_Merge sources parts) response =
-    IsFilesResponse (MayReadMerge may_read sources parts) (LacksMerge may_read sources parts) machine response
+    IsMergeResponse may_read sources parts machine response
+    ⊎ (LacksMerge may_read sources parts × (response ≡ file_fault_response machine))
 IsInvocationResponse may_read machine (invocation_Report arch file) response =
-    IsFilesResponse (MayReadReport may_read arch file) (LacksReport may_read file) machine response
+    ((command : Command) × MayReadReport may_read arch file command × (response ≡ command_response machine command))
+    ⊎ (LacksReport may_read file × (response ≡ file_fault_response machine))
 
 -- what may be said to a line of this kind
 abbrev pub IsResponseOfKind : MayRead → Machine → LineKind → LineResponse → Type 0

@@ -1,5 +1,5 @@
 -- What one turn of a run does: it reads a line and answers it.
-use Rattle.std.specs.Prelude.{◌≡◌, ℕ, Bool, ◌<◌, ◌≤◌, false, true, ◌⊎◌, List, length, take, ⊤, IsOk, IsTrue, Option, None, Some, Result, Ok, Err}
+use Rattle.std.specs.Prelude.{◌≡◌, ℕ, Bool, ◌≤◌, false, true, ◌⊎◌, List, ⊤, IsTrue, Option, None, Some, Result, Ok, Err}
 use Rattle.std.specs.Cow.{cow_str_bytes}
 use Rattle.std.specs.Io.KnownBytes.{Appends, Consumes, IsAtEnd}
 use Rattle.wb_states.specs.Machine.{Machine}
@@ -7,18 +7,21 @@ use Rattle.wb_states.specs.declared.command.Command.{Command}
 use Rattle.wb_states.specs.declared.query.Query.{Query}
 use Rattle.wb_states.specs.Queries.{has_malformed_name}
 use Rattle.wb_states.specs.declared.refusal.Refusal.{Refusal}
-use Rattle.wb_step.specs.Step.{step}
+use Rattle.wb_states.specs.declared.refusal.Refusal.TheVariants.{Memory as refusal_Memory}
+use Rattle.wb_states.specs.declared.reply.Reply.{Reply as AnyReply}
+use Rattle.wb_states.specs.Refusals.{is_of_store}
 use Rattle.wb_words.specs.declared.fault.WordsFault.{WordsFault}
 use Rattle.wb_words.specs.declared.fault.WordsFault.TheVariants.{NoCommand, Memory}
 use Rattle.wb_words.specs.declared.words.Invocation.{Invocation}
 use Rattle.wb_words.specs.declared.words.Invocation.TheVariants.{Command as invocation_Command, Merge as invocation_Merge, Query as invocation_Query, Report as invocation_Report}
+use Rattle.wb_api.specs.Encoding.{is_plain}
 use Rattle.wb_api.specs.Memory.{MayLackMemory}
 use Rattle.deb_text.specs.Lines.{IsOneLine}
 use Rattle.wb_streams.specs.Line.{is_long, with_line_feed}
 use Rattle.wb_streams.specs.Streams.{AppendsFront}
 use Rattle.wb_daemon.specs.Lists.{MayRead}
 use Rattle.wb_step.specs.Offices.{Accepts, Standing, Open}
-use Rattle.wb_daemon.specs.Run.{Asked, Fault, LineResponse, Request, file_fault_response, IsInvocationResponse, IsRefused, IsResponse, IsSaid, Invokes, asked_by, command_response, memory_response, query_response, EndsInput, RunStopsFor}
+use Rattle.wb_daemon.specs.Run.{Asked, Fault, LineResponse, Request, file_fault_response, IsInvocationResponse, IsRefused, IsResponse, IsSaid, Invokes, asked_by, command_response, memory_response, query_response, EndsInput, RunStopsFor, answer_response, refusal_response}
 use Rattle.wb_daemon.specs.declared.answer.LineAnswer.{LineAnswer}
 use Rattle.wb_daemon.specs.declared.message.Cause.{Cause}
 use Rattle.wb_daemon.specs.declared.message.Cause.TheVariants.{Read, Write, Reply, Store, Lines, Room}
@@ -31,6 +34,21 @@ use Rattle.wb_daemon.specs.declared.run.Turn.TheVariants.{More, End, Stop}
 abbrev pub response_of_answer : LineAnswer → Machine → LineResponse
 response_of_answer answer after = record { text = with_line_feed (cow_str_bytes answer.text); machine = after; status = answer.status }
 
+-- this is said by an answer, whatever state the office is in after it
+abbrev pub SaysEver : LineAnswer → (Machine → LineResponse) → Type 0
+SaysEver answer response = (after : Machine) → response_of_answer answer after ≡ response after
+
+-- what is told of what the office answered to a command of this name: the reply, or the refusal; or that there is no memory for it, which is not told of a reply to a
+-- command that was counted
+abbrev pub Tells : List ℕ → Bool → Result AnyReply Refusal → LineAnswer → Type 0
+Tells name is_counted (Ok reply) answer =
+    (answer.stops ≡ false)
+    × (SaysEver answer (answer_response name (Ok reply)) ⊎ ((is_counted ≡ false) × SaysEver answer memory_response))
+Tells name is_counted (Err refusal) answer =
+    (answer.stops ≡ is_of_store refusal)
+    × ((¬ (refusal ≡ refusal_Memory) × SaysEver answer (λ after. refusal_response after refusal))
+    ⊎ (((refusal ≡ refusal_Memory) ⊎ (is_plain refusal ≡ false)) × SaysEver answer memory_response))
+
 -- what may be said to a command: that there is no memory for it is possible too
 abbrev pub IsCommandResponseOrMemory : Machine → Command → LineResponse → Type 0
 IsCommandResponseOrMemory machine command response =
@@ -41,7 +59,7 @@ abbrev pub IsQueryResponseOrMemory : Machine → Query → LineResponse → Type
 IsQueryResponseOrMemory machine query response =
     (response ≡ query_response machine query) ⊎ ((has_malformed_name query ≡ false) × (response ≡ memory_response machine))
 
--- why the answer to what a line asks for may be that memory ran out: a command or a query as above, and files are read into memory
+-- why the answer to what a line asks for may be that memory ran out: a command or a query as above, and files take memory
 abbrev pub MayLackMemoryFor : Machine → Invocation → Type 0
 MayLackMemoryFor machine (invocation_Command command) = MayLackMemory machine command
 MayLackMemoryFor machine (invocation_Query query) = has_malformed_name query ≡ false
@@ -53,7 +71,7 @@ abbrev pub IsInvocationResponseOrMemory : MayRead → Machine → Invocation →
 IsInvocationResponseOrMemory may_read machine invocation response =
     IsInvocationResponse may_read machine invocation response ⊎ (MayLackMemoryFor machine invocation × (response ≡ memory_response machine))
 
--- what may be said to a command that files were read for: they gave it, or one of them is at fault, or there is no memory for them
+-- what may be said to a command that a file was read for: it gave it, or it is at fault, or there is no memory for it
 abbrev pub IsMadeResponse : {E : Type 0} → Result (Option Command) E → Machine → LineResponse → Type 0
 IsMadeResponse (Ok (Some command)) machine response = IsCommandResponseOrMemory machine command response
 IsMadeResponse (Ok None) machine response = response ≡ file_fault_response machine

@@ -1,5 +1,5 @@
 //! The answer to what was asked, before it is written.
-ghost use Rattle.std.specs.Prelude.{◌≡◌, ◌≤◌, IfSome, None, Some, Ok, false, true};
+ghost use Rattle.std.specs.Prelude.{◌≡◌, ◌≤◌, IfSome, IsOk, None, Some, Ok, false, true};
 ghost use Rattle.wb_daemon.specs.Lists.{MayReadLess};
 ghost use Rattle.wb_step.specs.Offices.{Accepts, Failed, InDoubt, Leads, Reaches};
 ghost use Rattle.wb_daemon.specs.Run.{file_fault_response, line_fault_response, memory_response, Asked, Invokes, InvokesAs, IsInvocationRefused};
@@ -7,17 +7,20 @@ ghost use Rattle.wb_daemon.specs.Run.{IsRefused, IsRefusedByStore, IsResponse};
 ghost use Rattle.wb_states.specs.Machine.{Machine};
 ghost use Rattle.wb_states.specs.declared.command.Command.{Command};
 ghost use Rattle.wb_daemon.specs.Turn.{response_of_answer, IsInvocationResponseOrMemory, IsCommandResponseOrMemory};
-ghost use Rattle.wb_daemon.specs.Turn.{IsMadeResponse, IsQueryResponseOrMemory, IsReadAs};
+ghost use Rattle.wb_daemon.specs.Turn.{IsMadeResponse, IsQueryResponseOrMemory, IsReadAs, Tells};
 ghost use Rattle.wb_words.specs.declared.fault.WordsFault.TheVariants.{NoCommand, Memory};
+ghost use Rattle.wb_words.specs.declared.words.Invocation.TheVariants.{Merge as invocation_Merge};
 
-use crate::lists::{Lists, merge_of, report_of};
+use crate::lists::{Lists, MergeLists, lists_of, report_of};
 use crate::status::{ACCEPTED, FILE_FAULT, LINE_FAULT, REFUSED};
+use deb_text::Text;
 use std::alloc::{AllocError, Global};
 use std::borrow::CowStr;
 use wb_api::{file_fault_json, line_fault_json, query_json, refusal_json, reply_json};
-use wb_states::{Command, Query, Refusal};
+use wb_archive::MergeFrom;
+use wb_states::{Command, Query, Refusal, Reply};
 use wb_step::CarryOut;
-use wb_words::{Invocation, WordsFault};
+use wb_words::{Invocation, PartNames, WordsFault};
 
 /// What is said to what was asked, without its line feed, its status, and whether the run stops after it, since
 /// the store failed or the office is closed.
@@ -26,6 +29,36 @@ pub(crate) struct LineAnswer {
     pub(crate) text: CowStr<'static>,
     pub(crate) status: u8,
     pub(crate) stops: bool,
+}
+
+/// The reply or the refusal of the office to a command of this name, with its status. It is `None` if there is no memory for
+/// the reply and the command was counted as accepted.
+fn tell(
+    alloc: Global,
+    name: &str,
+    is_counted: bool,
+    answered: Result<Reply, Refusal>,
+) -> Option<LineAnswer>
+    ensures status { IfSome result (λ answer. answer.status ≤ 3) }
+    ensures value { IfSome result (Tells name.now is_counted answered) }
+    ensures memory { result ≡ None → (is_counted ≡ true) × IsOk answered }
+{
+    match answered {
+        Ok(reply) => match reply_json(alloc, name, &reply) {
+            Ok(text) => Some(LineAnswer {
+                text: CowStr::Owned(text),
+                status: ACCEPTED,
+                stops: false,
+            }),
+            Err(_) if is_counted => None,
+            Err(_) => Some(memory_answer(alloc)),
+        },
+        Err(refusal) => Some(LineAnswer {
+            text: refusal_json(alloc, &refusal),
+            status: REFUSED,
+            stops: refusal.is_of_store(),
+        }),
+    }
 }
 
 /// The reply or the refusal of the office to a command, with its status. It is `None` if the command was
@@ -43,23 +76,9 @@ fn answer_to<O: CarryOut>(alloc: Global, office: &mut O, command: &Command) -> O
         IsRefusedByStore before (InDoubt command.now) (response_of_answer answer after) standing)) }
 {
     let accepted = office.accepted_count();
-    match office.carry_out(command) {
-        Ok(reply) => match reply_json(alloc, command.name(), &reply) {
-            Ok(text) => Some(LineAnswer {
-                text: CowStr::Owned(text),
-                status: ACCEPTED,
-                stops: false,
-            }),
-            Err(_) if office.accepted_count() == accepted => Some(memory_answer(alloc)),
-            Err(_) => None,
-        },
-        Err(Refusal::Memory) => Some(memory_answer(alloc)),
-        Err(refusal) => Some(LineAnswer {
-            text: refusal_json(alloc, &refusal),
-            status: REFUSED,
-            stops: refusal.is_of_store(),
-        }),
-    }
+    let answered = office.carry_out(command);
+    let is_counted = office.accepted_count() != accepted;
+    tell(alloc, command.name(), is_counted, answered)
 }
 
 /// What the office found for a query, or its refusal, with its status. If there is no memory for its text, it says so: the
@@ -105,7 +124,7 @@ fn memory_answer(alloc: Global) -> LineAnswer
     }
 }
 
-/// The answer if a list cannot be read.
+/// The answer if a list cannot be opened, or a report cannot be read.
 fn file_answer() -> LineAnswer
     ensures value { (machine : Machine) → response_of_answer result machine ≡ file_fault_response machine }
     ensures status { result.status ≤ 3 }
@@ -131,8 +150,8 @@ fn fault_answer() -> LineAnswer
     }
 }
 
-/// The answer to a command that files were read for: it is a file fault if one of them is at fault, and out of memory if
-/// there is none for them. It is `None` if the command was accepted and there is no memory for the reply.
+/// The answer to a command that a file was read for: it is a file fault if that is at fault, and out of memory if there is
+/// none for it. It is `None` if the command was accepted and there is no memory for the reply.
 fn answer_made<O: CarryOut>(
     alloc: Global,
     office: &mut O,
@@ -157,10 +176,48 @@ fn answer_made<O: CarryOut>(
     }
 }
 
-/// The answer to what words ask for. The files that they name are read first, and nothing is asked of the
-/// office if one of them is at fault. It is `None` if the command was accepted and there is no memory
+/// The answer to a merge of the lists of these names. They are opened first, in their order, and nothing is asked of the
+/// office if one of them cannot be opened. It is `None` if the merge was accepted and there is no memory for the reply.
+fn answer_merge<O: MergeFrom, L: Lists>(
+    alloc: Global,
+    office: &mut O,
+    lists: &mut L,
+    sources: &Text,
+    parts: &[PartNames],
+) -> Option<LineAnswer>
+    // what is said
+    ensures status { IfSome result (λ answer. answer.status ≤ 3) }
+    ensures value { IfSome result (λ answer. answer.stops ≡ false
+        → Reaches O.is_clean O.stands_at office.old office.new (λ before after.
+        IsInvocationResponseOrMemory (L.may_read lists.old) before (invocation_Merge sources.now parts.now)
+        (response_of_answer answer after))) }
+    ensures memory { result ≡ None → Reaches O.is_clean O.stands_at office.old office.new (λ before after.
+        (command : Command) × InvokesAs (L.may_read lists.old) (invocation_Merge sources.now parts.now) command
+        × Accepts before command after) }
+    ensures stops { IfSome result (λ answer. answer.stops ≡ true
+        → Leads O.is_clean O.is_closed O.stands_at O.leaves office.old office.new (λ before after standing.
+        IsInvocationRefused (L.may_read lists.old) before (invocation_Merge sources.now parts.now)
+        (response_of_answer answer after) standing)) }
+    // what is left of the lists and the office
+    ensures kept { MayReadLess (L.may_read lists.old) (L.may_read lists.new) }
+    ensures clean { O.is_clean office.new → O.is_clean office.old }
+{
+    match lists_of(alloc, lists, sources, parts) {
+        Ok(Some(MergeLists { sources, parts })) => {
+            let accepted = office.accepted_count();
+            let answered = office.merge_from(sources, parts);
+            let is_counted = office.accepted_count() != accepted;
+            tell(alloc, "merge", is_counted, answered)
+        }
+        Ok(None) => Some(file_answer()),
+        Err(_) => Some(memory_answer(alloc)),
+    }
+}
+
+/// The answer to what words ask for. The lists of a merge are opened first, and the file of a report is read, and nothing is
+/// asked of the office if one of them is at fault. It is `None` if the command was accepted and there is no memory
 /// for the reply.
-fn answer_invocation<O: CarryOut, L: Lists>(
+fn answer_invocation<O: MergeFrom, L: Lists>(
     alloc: Global,
     office: &mut O,
     lists: &mut L,
@@ -185,8 +242,7 @@ fn answer_invocation<O: CarryOut, L: Lists>(
         Invocation::Command { command } => answer_to(alloc, office, command),
         Invocation::Query { query } => Some(answer_query(alloc, office, query)),
         Invocation::Merge { sources, parts } => {
-            let made = merge_of(alloc, lists, sources, parts.as_slice());
-            answer_made(alloc, office, made)
+            answer_merge(alloc, office, lists, sources, parts.as_slice())
         }
         Invocation::Report { arch, file } => {
             let made = report_of(alloc, lists, arch, file);
@@ -212,7 +268,7 @@ fn unread_answer(alloc: Global, fault: &WordsFault) -> LineAnswer
 
 /// The answer to words, by what they were read as. It is `None` if they asked for a command that was accepted and there is
 /// no memory for the reply.
-pub(crate) fn answer_read<O: CarryOut, L: Lists>(
+pub(crate) fn answer_read<O: MergeFrom, L: Lists>(
     alloc: Global,
     office: &mut O,
     lists: &mut L,

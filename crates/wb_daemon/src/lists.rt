@@ -1,34 +1,35 @@
-//! The files that a command names, each read whole: the lists of a merge, and a report.
+//! The files that a command names: the lists of a merge, which are opened, and a report, which is read whole.
 ghost use Rattle.std.specs.Prelude.{◌≡◌, ⊤, IfErr, IfNone, IfOk, IfSome, OnErr};
 ghost use Rattle.std.specs.Io.{ReadsAtMost};
 ghost use Rattle.std.specs.Io.KnownBytes.{ReadConsumes};
-ghost use Rattle.wb_daemon.specs.Lists.{any_lists, MayRead, MayReadList, MayReadMerge, MayReadLess, MayReadPart};
-ghost use Rattle.wb_daemon.specs.Lists.{MayReadParts, MayReadReport, LacksList, LacksMerge, LacksPart, LacksReport};
-ghost use Rattle.wb_daemon.specs.Lists.{OpensList, ReadsList};
+ghost use Rattle.wb_daemon.specs.Lists.{any_lists, MayRead, MayReadLess, MayReadList, MayReadReport};
+ghost use Rattle.wb_daemon.specs.Lists.{LacksList, LacksMerge, LacksPart, LacksReport};
+ghost use Rattle.wb_daemon.specs.Lists.{OpensList, OpensMerge, OpensPart, OpensParts, ReadsList};
 
 use crate::message::Message;
-use deb_text::{Items, Text};
+use deb_text::Text;
 use std::alloc::{AllocError, Global};
-use std::io::{self, Read};
-use wb_states::command::{self, Command, Part};
+use std::io::{self, BufRead};
+use wb_archive::ArchList;
+use wb_states::command::{self, Command};
 use wb_words::PartNames;
 
-/// The greatest length of a list.
+/// The greatest length of a report.
 const LIST_LIMIT: usize = 2147483648;
 
-/// Where the lists are that a merge names, and who gets what no answer says (this project's own).
+/// Where the files are that a merge or a report names, and who gets what no answer says (this project's own).
 pub trait Lists {
-    /// What reads the bytes of a list.
-    type List: Read + Drop;
+    /// What reads the bytes of a file.
+    type List: BufRead + Drop;
 
-    // What is known of the lists: nothing, if an implementation does not say.
+    // What is known of the files: nothing, if an implementation does not say.
     ghost may_read: { Self → MayRead } = { λ _. any_lists };
 
-    // Whether a read of this opened list may fail: any may, if an implementation does not say.
+    // Whether a read of this opened file may fail: any may, if an implementation does not say.
     ghost breaks: { Self.List → Type 0 } = { λ _. ⊤ };
 
-    /// A reader over the list of this name, none if it cannot be opened. The error is that there is no
-    /// memory for it.
+    /// A reader over the file of this name, of which nothing was read; none if it cannot be opened. The error is that there
+    /// is no memory for it.
     fn open(&mut self, alloc: Global, name: &str) -> Result<Option<Self::List>, AllocError>
         ensures value { IfOk result (λ found. IfSome found (λ list.
             OpensList (may_read self.old) name.now (Self.List.remaining list))) }
@@ -37,7 +38,7 @@ pub trait Lists {
         ensures refused { IfOk result (λ found. IfNone found ((may_read self.old).fails name.now)) }
         ensures kept { MayReadLess (may_read self.old) (may_read self.new) };
 
-    /// Reads on in an opened list, as its `read` does.
+    /// Reads on in the opened file of a report, as its `read` does.
     fn read(list: &mut Self::List, room: &mut [u8]) -> io::Result<usize>
         ensures bound { ReadsAtMost result room.new }
         ensures bytes { ReadConsumes (Self.List.remaining list.old) (Self.List.remaining list.new) result room.new }
@@ -51,18 +52,27 @@ pub trait Lists {
     {}
 }
 
-/// What a read of a list gave.
+/// The opened lists of a merge.
+#[derive(Drop)]
+pub(crate) struct MergeLists<R: Drop> {
+    /// A reader of the Sources list, of which nothing was read.
+    pub(crate) sources: R,
+    /// The Packages lists.
+    pub(crate) parts: Vec<ArchList<R>>,
+}
+
+/// What a read of a report gave.
 #[derive(Drop)]
 enum ListRead {
     /// All its bytes.
     Whole(Vec<u8>),
-    /// There are more bytes than a list may have.
+    /// There are more bytes than a report may have.
     TooLong,
     /// A read failed, or was interrupted.
     Failed(io::Error),
 }
 
-/// All bytes that the list has left, or why there are none. The error is that there is no memory for them.
+/// All bytes that the file has left, or why there are none. The error is that there is no memory for them.
 fn read_list<L: Lists>(alloc: Global, list: &mut L::List) -> Result<ListRead, AllocError>
     ensures value { IfOk result (ReadsList (L.breaks list.old) (L.List.remaining list.old)) }
 {
@@ -78,8 +88,8 @@ fn read_list<L: Lists>(alloc: Global, list: &mut L::List) -> Result<ListRead, Al
     Ok(ListRead::TooLong)
 }
 
-/// The bytes of the list of this name; none if it cannot be opened or read, or is too long.
-fn list_of<L: Lists>(
+/// The bytes of the file of this name; none if it cannot be opened or read, or is too long.
+fn report_bytes<L: Lists>(
     alloc: Global,
     lists: &mut L,
     name: &Text,
@@ -105,38 +115,38 @@ fn list_of<L: Lists>(
     Ok(None)
 }
 
-/// The part of a merge with the list that stands for it; none if that is at fault.
+/// The list of a part of a merge, opened; none if it cannot be.
 fn part_of<L: Lists>(
     alloc: Global,
     lists: &mut L,
     names: &PartNames,
-) -> Result<Option<Part>, AllocError>
-    ensures value { IfOk result (λ found. IfSome found (λ part.
-        MayReadPart (L.may_read lists.old) names.now part)) }
-    ensures refused { IfOk result (λ found. IfNone found (LacksList (L.may_read lists.old) names.now.packages)) }
+) -> Result<Option<ArchList<L::List>>, AllocError>
+    ensures value { IfOk result (λ found. IfSome found (λ list.
+        OpensPart (L.may_read lists.old) L.List.remaining names.now list)) }
+    ensures refused { IfOk result (λ found. IfNone found ((L.may_read lists.old).fails names.now.packages)) }
     ensures kept { MayReadLess (L.may_read lists.old) (L.may_read lists.new) }
 {
-    let Some(packages) = list_of(alloc, lists, &names.packages)? else {
+    let Some(packages) = lists.open(alloc, names.packages.as_str())? else {
         return Ok(None);
     };
-    Ok(Some(Part {
+    Ok(Some(ArchList {
         arch: names.arch.clone()?,
-        packages: Items::from(packages),
+        packages,
     }))
 }
 
-/// The parts of a merge in their order, each with its list; none from the first list on that is at fault.
+/// The lists of the parts of a merge, opened in their order; none from the first on that cannot be.
 fn parts_of<L: Lists>(
     alloc: Global,
     lists: &mut L,
     names: &[PartNames],
-) -> Result<Option<Items<Part>>, AllocError>
+) -> Result<Option<Vec<ArchList<L::List>>>, AllocError>
     ensures value { IfOk result (λ found. IfSome found (λ parts.
-        MayReadParts (L.may_read lists.old) names.now parts)) }
+        OpensParts (L.may_read lists.old) L.List.remaining names.now parts.items)) }
     ensures refused { IfOk result (λ found. IfNone found (LacksPart (L.may_read lists.old) names.now)) }
     ensures kept { MayReadLess (L.may_read lists.old) (L.may_read lists.new) }
 {
-    let mut parts = Items::new(alloc);
+    let mut parts = Vec::new(alloc);
     for part_names in names {
         match part_of(alloc, lists, part_names)? {
             Some(part) => parts.push(part)?,
@@ -146,31 +156,27 @@ fn parts_of<L: Lists>(
     Ok(Some(parts))
 }
 
-/// The merge of the lists of these names, which are read in their order, the Sources list first; none
-/// if one of them cannot be opened or read, or is too long. The error is that there is no memory for
-/// them.
-pub(crate) fn merge_of<L: Lists>(
+/// The lists of these names, which are opened in their order, the Sources list first; none if one of them cannot be
+/// opened. The error is that there is no memory for them.
+pub(crate) fn lists_of<L: Lists>(
     alloc: Global,
     lists: &mut L,
     sources: &Text,
     parts: &[PartNames],
-) -> Result<Option<Command>, AllocError>
-    ensures value { IfOk result (λ found. IfSome found (λ command.
-        MayReadMerge (L.may_read lists.old) sources.now parts.now command)) }
+) -> Result<Option<MergeLists<L::List>>, AllocError>
+    ensures value { IfOk result (λ found. IfSome found (λ opened.
+        OpensMerge (L.may_read lists.old) L.List.remaining sources.now parts.now opened)) }
     ensures refused { IfOk result (λ found. IfNone found
         (LacksMerge (L.may_read lists.old) sources.now parts.now)) }
     ensures kept { MayReadLess (L.may_read lists.old) (L.may_read lists.new) }
 {
-    let Some(sources) = list_of(alloc, lists, sources)? else {
+    let Some(sources) = lists.open(alloc, sources.as_str())? else {
         return Ok(None);
     };
     let Some(parts) = parts_of(alloc, lists, parts)? else {
         return Ok(None);
     };
-    Ok(Some(Command::Merge(command::Merge {
-        sources: Items::from(sources),
-        parts,
-    })))
+    Ok(Some(MergeLists { sources, parts }))
 }
 
 /// The report of an architecture that the file of this name has; none if that cannot be opened or read, is too
@@ -186,7 +192,7 @@ pub(crate) fn report_of<L: Lists>(
     ensures refused { IfOk result (λ found. IfNone found (LacksReport (L.may_read lists.old) file.now)) }
     ensures kept { MayReadLess (L.may_read lists.old) (L.may_read lists.new) }
 {
-    let Some(bytes) = list_of(alloc, lists, file)? else {
+    let Some(bytes) = report_bytes(alloc, lists, file)? else {
         return Ok(None);
     };
     let Ok(text) = String::from_utf8(bytes) else {

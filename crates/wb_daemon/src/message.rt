@@ -38,9 +38,9 @@ pub enum Message<'a> {
     LineFault { line: u64, reason: &'a str },
     /// The words of a single command are a line fault for this reason.
     WordsFault { reason: &'a str },
-    /// A read of the list of this name failed.
+    /// The file of this name cannot be opened, or a read of it failed.
     ListFailed { name: &'a str, error: &'a io::Error },
-    /// The list of this name is longer than a list may be.
+    /// The file of this name, which is to be a report, is longer than a report may be.
     ListTooLong { name: &'a str },
     /// The file of this name, which is to be a report, is not UTF-8.
     ListNotText { name: &'a str },

@@ -18,7 +18,7 @@ use deb_text::is_blank_line;
 use std::alloc::Global;
 use std::io::{Read, Write};
 use wb_api::line_fault_json;
-use wb_step::CarryOut;
+use wb_archive::MergeFrom;
 use wb_streams::{
     ByteRead, LINE_LIMIT, LineRead, WatchedReader, WatchedWriter, read_byte, read_line, write_line,
 };
@@ -69,7 +69,7 @@ fn write_answer<W: Write + Drop>(
 
 /// Acts on what words were read as, and writes what is said to it. Answers its status. The errors are `Reply`, `Write` and,
 /// after the answer was written, `Store`; a run stops there.
-pub(crate) fn answer_words<O: CarryOut, W: Write + Drop, L: Lists>(
+pub(crate) fn answer_words<O: MergeFrom, W: Write + Drop, L: Lists>(
     alloc: Global,
     office: &mut O,
     read: &Result<Invocation, WordsFault>,
@@ -99,7 +99,7 @@ pub(crate) fn answer_words<O: CarryOut, W: Write + Drop, L: Lists>(
 
 /// Acts on the line of this number and writes what is said to it. Answers the status of the line. The errors
 /// are `Reply`, `Write` and, after the answer was written, `Store`; the run stops there.
-fn answer_line<O: CarryOut, W: Write + Drop, L: Lists>(
+fn answer_line<O: MergeFrom, W: Write + Drop, L: Lists>(
     alloc: Global,
     office: &mut O,
     number: u64,
@@ -130,7 +130,7 @@ fn answer_line<O: CarryOut, W: Write + Drop, L: Lists>(
 }
 
 /// Reads the line of this number into the room and answers it.
-fn take_turn<O: CarryOut, R: Read + Drop, W: Write + Drop, L: Lists>(
+fn take_turn<O: MergeFrom, R: Read + Drop, W: Write + Drop, L: Lists>(
     alloc: Global,
     office: &mut O,
     reader: &mut WatchedReader<R>,
@@ -181,7 +181,7 @@ fn take_turn<O: CarryOut, R: Read + Drop, W: Write + Drop, L: Lists>(
 }
 
 /// The run in a room that holds one line.
-fn run_within<O: CarryOut, R: Read + Drop, W: Write + Drop, L: Lists>(
+fn run_within<O: MergeFrom, R: Read + Drop, W: Write + Drop, L: Lists>(
     alloc: Global,
     office: &mut O,
     reader: &mut WatchedReader<R>,
@@ -213,7 +213,7 @@ fn run_within<O: CarryOut, R: Read + Drop, W: Write + Drop, L: Lists>(
 }
 
 /// The run in a room of its own, for which there may be no memory.
-fn run_in_room<O: CarryOut, R: Read + Drop, W: Write + Drop, L: Lists>(
+fn run_in_room<O: MergeFrom, R: Read + Drop, W: Write + Drop, L: Lists>(
     alloc: Global,
     office: &mut O,
     reader: &mut WatchedReader<R>,
@@ -237,11 +237,13 @@ fn run_in_room<O: CarryOut, R: Read + Drop, W: Write + Drop, L: Lists>(
 ///
 /// A line ends at a line feed, which the last may lack; its words are separated by spaces and tabs, without
 /// quoting. A line without words is not answered. A line that is not UTF-8, whose words ask for nothing that
-/// there is, or that is longer than 65536 bytes is a line fault; one that is too long is the last. The files
-/// that a merge or a report names are read whole, in the order of the words, before the office is asked: one that
-/// cannot be opened, whose reading fails, that is longer than 2147483648 bytes, or a report's that is not UTF-8 is
-/// a file fault, which changes nothing, and the run goes on. A line for which there is no memory is answered as a refusal: out of
-/// memory. The status is the greatest of the lines': 0 accepted, 1 refused, 2 a line fault, 3 a file fault.
+/// there is, or that is longer than 65536 bytes is a line fault; one that is too long is the last. The lists
+/// that a merge names are opened, in the order of the words, before the office is asked: one that cannot be
+/// opened is a file fault, which changes nothing, and the run goes on. The office then reads them: it refuses one
+/// of which a read fails, or that is longer than 2147483648 bytes. A report is read whole before the office is asked: one
+/// that cannot be opened, whose reading fails, that is longer than 2147483648 bytes, or that is not UTF-8 is a
+/// file fault. A line for which there is no memory is answered as a refusal: out of memory. The status is the
+/// greatest of the lines': 0 accepted, 1 refused, 2 a line fault, 3 a file fault.
 ///
 /// Status 3 says as well that the run stopped: a read of the input failed, and the line that it cut off was
 /// not acted on; or a write failed or took no byte, also an interrupted one, and the output ends within the
@@ -250,7 +252,7 @@ fn run_in_room<O: CarryOut, R: Read + Drop, W: Write + Drop, L: Lists>(
 /// that was acted on says so; or more follows the 1000000000th line feed; or there was no memory for the
 /// room that holds a line, and nothing was read. The commands of all lines that were acted on stand; one at
 /// which the store failed is left by a crash whole or not at all (this project's own).
-pub fn run_lines<O: CarryOut, R: Read + Drop, W: Write + Drop, L: Lists>(
+pub fn run_lines<O: MergeFrom, R: Read + Drop, W: Write + Drop, L: Lists>(
     alloc: Global,
     office: &mut O,
     reader: &mut WatchedReader<R>,

@@ -12,12 +12,12 @@ use crate::run::answer_words;
 use crate::status::STOPPED;
 use std::alloc::Global;
 use std::io::Write;
-use wb_step::CarryOut;
+use wb_archive::MergeFrom;
 use wb_streams::WatchedWriter;
 
 /// Reads the words of a single command, acts on what they ask for, and writes what is said to it. Answers its status. The
 /// errors are those of `answer_words`.
-fn answer_single<O: CarryOut, W: Write + Drop, L: Lists>(
+fn answer_single<O: MergeFrom, W: Write + Drop, L: Lists>(
     alloc: Global,
     office: &mut O,
     words: &[&str],
@@ -43,13 +43,14 @@ fn answer_single<O: CarryOut, W: Write + Drop, L: Lists>(
 /// Answers its status.
 ///
 /// Each word is taken as it is, also one that is empty or has spaces. No words, and words that have more than 65536 bytes
-/// with a space between each two, are a line fault, as are words that ask for nothing that there is. The statuses are those
+/// with a space between each two, are a line fault, as are words that ask for nothing that there is. The lists of a merge and
+/// a report are opened and read as those of a line. The statuses are those
 /// of a line: 0 accepted, or a query was answered, 1 refused, 2 a line fault, 3 a file fault. Status 3 says as well that
 /// a write failed or took no byte, also an interrupted one, and the output ends within the answer; or there was no memory
 /// for the reply to an accepted command, and nothing of it was written; or the store failed or the office is closed, and
 /// the answer says so. The command stands then; one at which the store failed is left by a crash whole or not at all
 /// (this project's own).
-pub fn run_words<O: CarryOut, W: Write + Drop, L: Lists>(
+pub fn run_words<O: MergeFrom, W: Write + Drop, L: Lists>(
     alloc: Global,
     office: &mut O,
     words: &[&str],

@@ -9,7 +9,7 @@ pub const REFUSED: u8 = 1;
 /// The line is no command, or the program's own words are none.
 pub const LINE_FAULT: u8 = 2;
 
-/// A list that the line names cannot be read.
+/// A list that the line names cannot be opened, or its report cannot be read.
 pub const FILE_FAULT: u8 = 3;
 
 /// The run stopped before its input ended.

@@ -8,7 +8,7 @@ use Rattle.wb_states.specs.declared.command.Command.{Command}
 use Rattle.wb_states.specs.declared.command.Command.TheVariants.{AddArch, AddBuilder, Enter, Next, Take, Built, Uploaded, Waits, PutBack, Attempted, GiveBack, DepWait, Fail, NotForUs, Rebuild, BuildPriority, Merge, Report}
 use Rattle.wb_states.specs.declared.command.Part.{Part}
 use Rattle.wb_states.specs.declared.reply.PartReply.{PartReply}
-use Rattle.wb_journal.specs.Commands.{number_or_null, value_of_arch, value_of_command, value_of_merged, values_of_parts}
+use Rattle.wb_journal.specs.Commands.{number_or_null, part_value, value_of_command, value_of_merged, values_of_parts}
 
 is_float-of_integer : (z : ℤ) → is_float (of_integer z) ≡ false
 is_float-of_integer (pos n) = refl
@@ -43,7 +43,7 @@ has_float-value_of_command (BuildPriority given) = rw (is_float-of_integer given
 has_float-value_of_command (Merge given) = rw (items_have_float-values_of_parts given.parts) refl
 has_float-value_of_command (Report given) = refl
 
-items_have_float-replies : (replies : List PartReply) → items_have_float (items_of (map (λ (reply : PartReply). value_of_arch reply.arch) replies)) ≡ false
+items_have_float-replies : (replies : List PartReply) → items_have_float (items_of (map (λ (reply : PartReply). part_value reply.arch) replies)) ≡ false
 items_have_float-replies [] = refl
 items_have_float-replies (reply ∷ replies) = items_have_float-replies replies
 

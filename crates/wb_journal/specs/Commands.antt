@@ -39,12 +39,12 @@ noted_value name given = object
     (member (codes "version") (string given.version) no_members)))))
 
 -- the object of a part of a merge, by its architecture
-abbrev pub value_of_arch : List ℕ → Data
-value_of_arch arch = object (member (codes "arch") (string arch) no_members)
+abbrev pub part_value : List ℕ → Data
+part_value arch = object (member (codes "arch") (string arch) no_members)
 
 -- the object of a part of a merge
 abbrev pub value_of_part : Part → Data
-value_of_part part = value_of_arch part.arch
+value_of_part part = part_value part.arch
 
 -- the objects of the parts of a merge, in their order
 abbrev pub values_of_parts : List Part → Items
@@ -58,7 +58,7 @@ merge_value parts = object
 
 -- the object of a merge that was accepted with this reply, by the architectures of its parts
 abbrev pub value_of_merged : List PartReply → Data
-value_of_merged replies = merge_value (items_of (map (λ reply. value_of_arch reply.arch) replies))
+value_of_merged replies = merge_value (items_of (map (λ reply. part_value reply.arch) replies))
 
 -- the object of a command: its name and its arguments; of a merge the architectures, and of a report how many bytes it has
 abbrev pub value_of_command : Command → Data

@@ -26,10 +26,10 @@ time_text (Some time) = quoted time
 
 -- the line of a command of this name and with this object that was accepted at this time, with its reply
 unfoldable pub line_text : Option (List ℕ) → List ℕ → Data → Reply → List ℕ
-line_text time name object reply =
+line_text time name value reply =
     codes "{\"accepted\":" ++ decimal (accepted_of reply)
     ++ codes ",\"answer\":" ++ reply_text name reply
-    ++ codes ",\"command\":" ++ compact_text object
+    ++ codes ",\"command\":" ++ compact_text value
     ++ codes ",\"time\":" ++ time_text time
     ++ codes "}\n"
 

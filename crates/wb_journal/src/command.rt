@@ -1,7 +1,7 @@
 //! Commands as the objects of a journal, with their arguments by name.
 ghost use Rattle.std.specs.Prelude.{◌≡◌, codes, map, IfOk};
 ghost use Rattle.serde_json.specs.View.{items_of, view};
-ghost use Rattle.wb_journal.specs.Commands.{merge_value, named_value, noted_value, number_or_null, value_of_arch, value_of_command, value_of_held, value_of_merged, value_of_part};
+ghost use Rattle.wb_journal.specs.Commands.{merge_value, named_value, noted_value, number_or_null, part_value, value_of_command, value_of_held, value_of_merged, value_of_part};
 ghost use Rattle.wb_states.specs.declared.command.Command.TheVariants.{AddArch, AddBuilder, Attempted, BuildPriority};
 ghost use Rattle.wb_states.specs.declared.command.Command.TheVariants.{DepWait, Enter, Merge, Next, Rebuild, Report, Take, Waits};
 
@@ -237,12 +237,12 @@ fn values_of_parts(alloc: Global, parts: &[Part]) -> Result<Vec<Value>, AllocErr
 fn value_of_part(alloc: Global, part: &Part) -> Result<Value, AllocError>
     ensures { IfOk result (λ value. view value ≡ value_of_part part.now) }
 {
-    value_of_arch(alloc, &part.arch)
+    part_value(alloc, &part.arch)
 }
 
 /// The object of a part of a merge: its architecture.
-fn value_of_arch(alloc: Global, arch: &Text) -> Result<Value, AllocError>
-    ensures { IfOk result (λ value. view value ≡ value_of_arch arch.now) }
+fn part_value(alloc: Global, arch: &Text) -> Result<Value, AllocError>
+    ensures { IfOk result (λ value. view value ≡ part_value arch.now) }
 {
     json!(in alloc; {"arch": arch.as_str()})
 }
@@ -253,7 +253,7 @@ pub(crate) fn value_of_merged(alloc: Global, replies: &[PartReply]) -> Result<Va
 {
     let mut values = Vec::new(alloc);
     for reply in replies {
-        values.push(value_of_arch(alloc, &reply.arch)?)?;
+        values.push(part_value(alloc, &reply.arch)?)?;
     }
     merge_value(alloc, values)
 }

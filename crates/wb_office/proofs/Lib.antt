@@ -2,6 +2,7 @@ pub mod AnswerLemmas
 pub mod ApplyLemmas
 pub mod AskLemmas
 pub mod CarryLemmas
+pub mod CountLemmas
 pub mod DoubtLemmas
 pub mod FencingLemmas
 pub mod FoundLemmas

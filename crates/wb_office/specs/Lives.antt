@@ -23,6 +23,11 @@ acknowledged command reply = if is_again reply then [] else command ∷ []
 abbrev pub IsAccepted : Machine → Command → Type 0
 IsAccepted machine command = (reply : Reply) × ((step machine command).0 ≡ Ok reply) × (is_again reply ≡ false)
 
+-- the step accepts each of these commands, one after another from this state on
+abbrev pub AreAccepted : Machine → List Command → Type 0
+AreAccepted machine [] = ⊤
+AreAccepted machine (command ∷ commands) = IsAccepted machine command × AreAccepted (step machine command).1 commands
+
 -- each of these commands was answered that the office is closed
 abbrev pub AreClosed : List Command → List Outcome → Type 0
 AreClosed [] [] = ⊤

@@ -2,7 +2,7 @@
 
 use std::alloc::{AllocError, Global};
 use std::fs;
-use std::io::BufReader;
+use std::io::{self, BufReader, Read};
 use std::rt::Files;
 use wb_daemon::Lists;
 
@@ -29,5 +29,9 @@ impl<'a, F: Files> Lists for FileLists<'a, F> {
             return Ok(None);
         };
         Ok(Some(BufReader::new(alloc, file).ok().ok_or(AllocError)?))
+    }
+
+    fn read(list: &mut BufReader<F::File>, room: &mut [u8]) -> io::Result<usize> {
+        list.read(room)
     }
 }

@@ -1,6 +1,5 @@
 -- What was written of what is said to what was read.
 use Rattle.std.proofs.Common.{◌≡◌, true, false, inl, inr, sym, refl, subst}
-use Rattle.wb_streams.specs.Line.{with_line_feed}
 use Rattle.wb_step.specs.Offices.{Leads, Open}
 use Rattle.wb_daemon.specs.Run.{IsResponse}
 use Rattle.wb_daemon.specs.Turn.{AnswersInPart, response_of_answer}
