@@ -1,5 +1,5 @@
-//! What the office answers to a merge of lists that readers give, over its tables: they are read paragraph by paragraph
-//! into the tables, and the records that they change are written, in one transaction.
+//! What the office answers to a merge of lists that readers give, over its tables: the lists are read paragraph by paragraph into
+//! the tables, and the records that they change are written, in one transaction.
 ghost use Rattle.std.specs.Prelude.{◌≡◌, None};
 ghost use Rattle.wb_archive.specs.Readers.{archs_refusal};
 ghost use Rattle.wb_office.specs.ListAnswers.{RespondsLists};
@@ -16,8 +16,8 @@ use wb_archive::ArchList;
 use wb_states::{Refusal, Reply, Table};
 use wb_store::{Store, unfit};
 
-/// Merges lists that readers give, of which the names are not refused, by what is known of the tables, and takes over
-/// what is known then.
+/// Merges lists that readers give, by what is known of the tables, and takes over what is known then. The names of their
+/// architectures are not refused.
 pub(crate) fn answer_lists<S: Alter + Drop, R: BufRead + Drop>(
     alloc: Global,
     store: &mut Store<S>,
@@ -26,8 +26,7 @@ pub(crate) fn answer_lists<S: Alter + Drop, R: BufRead + Drop>(
     lists: Vec<ArchList<R>>,
 ) -> Result<Reply, Failure>
     requires names { archs_refusal lists.items ≡ None }
-    ensures responds { RespondsLists S.Store R.remaining sources lists.items known.old store.old known.new store.new
-        result }
+    ensures responds { RespondsLists S.Store R.remaining sources lists.items known.old store.old known.new store.new result }
 {
     let archs = match find_archs(alloc, store, known) {
         Ok(archs) => archs,
