@@ -101,7 +101,7 @@ impl<'a, F: Files + Eprint> FileList<'a, F> {
     fn count(&mut self, bytes: u64) {
         self.read = self.read.saturating_add(bytes);
         if let Some(size) = self.size {
-            if self.read - self.reported >= REPORTED_BYTES {
+            if self.read.saturating_sub(self.reported) >= REPORTED_BYTES {
                 self.reported = self.read;
                 let _ = eprintln!(self.rt;
                     "wb: reading {}, {} of {} MB",
