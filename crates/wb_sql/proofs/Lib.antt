@@ -12,6 +12,7 @@ pub mod CreatedLemmas
 pub mod DefinitionLemmas
 pub mod EndingLemmas
 pub mod FirstRowLemmas
+pub mod FirstSchemaLemmas
 pub mod FormatLemmas
 pub mod FreeLemmas
 pub mod GrowthLemmas

@@ -2,6 +2,7 @@ pub mod Among
 pub mod Calls
 pub mod Changes
 pub mod Definitions
+pub mod FirstSchema
 pub mod Format
 pub mod Making
 pub mod OfficeStatements

@@ -1,6 +1,7 @@
 //! Whether the parts of a schema are the ones that are wanted, each compared field by field.
 ghost use Rattle.std.specs.Prelude.{◌≡◌, ◌↔◌, IsTrue, [], ◌∷◌, map, codes};
 ghost use Rattle.sqlite_value.specs.Keys.{plain};
+ghost use Rattle.wb_sql.specs.FirstSchema.{IsKeyedBeside};
 ghost use Rattle.wb_sql.specs.Tables.{names_arch, office};
 ghost use Rattle.wb_sql.specs.Recognition.{column_of, columns_of, index_of, indexes_of};
 ghost use Rattle.wb_sql.specs.Recognition.{indexes_on, treeless, IsTable, IsKeyedById, IsKeyedBy};
@@ -41,6 +42,17 @@ pub(crate) fn is_keyed_by(table: &Table, places: &[usize]) -> bool
         && are_places(table.primary.as_slice(), places)
         && has_one_unique(table, places)
         && is_one_order(table.orders.as_slice())
+}
+
+/// Whether the table's PRIMARY KEY has these places, beside a UNIQUE of those, which comes first, each with an index in its
+/// order.
+pub(crate) fn is_keyed_beside(table: &Table, unique: &[usize], places: &[usize]) -> bool
+    ensures value { IsTrue result ↔ IsKeyedBeside table.now unique.now places.now }
+{
+    table.key.is_none()
+        && are_places(table.primary.as_slice(), places)
+        && has_two_uniques(table, unique, places)
+        && are_two_orders(table.orders.as_slice())
 }
 
 /// Whether the table has neither a check nor a reference.
@@ -122,6 +134,26 @@ fn has_one_unique(table: &Table, places: &[usize]) -> bool
 {
     match table.uniques.as_slice() {
         [key] => are_places(key.as_slice(), places),
+        _ => false,
+    }
+}
+
+/// Whether the table has two UNIQUEs, first one with these places and then one with those.
+fn has_two_uniques(table: &Table, first: &[usize], second: &[usize]) -> bool
+    ensures value { IsTrue result ↔ (table.now.uniques ≡ first.now ∷ second.now ∷ []) }
+{
+    match table.uniques.as_slice() {
+        [one, other] => are_places(one.as_slice(), first) && are_places(other.as_slice(), second),
+        _ => false,
+    }
+}
+
+/// Whether the two orders are by the bytes of the columns, which ascend.
+fn are_two_orders(orders: &[Order]) -> bool
+    ensures value { IsTrue result ↔ (orders.now ≡ plain ∷ plain ∷ []) }
+{
+    match orders {
+        [one, other] => one.digits == 0 && other.digits == 0,
         _ => false,
     }
 }

@@ -9,6 +9,7 @@ mod comparison;
 mod create;
 mod definitions;
 mod files;
+pub mod first_schema;
 mod format;
 mod id_check;
 mod making;
@@ -21,6 +22,7 @@ mod transaction;
 
 pub use changes::{delete, insert, replace, update, upsert};
 pub use files::{close, open, surrender};
+pub use first_schema::has_first_tables;
 pub use format::has_format_column;
 pub use making::{make_empty_office, make_tables};
 pub use reading::read;

@@ -50,7 +50,7 @@ fn has_tables(schema: &Schema) -> bool
 }
 
 /// Whether the schema has the table of the office, which has no index.
-fn has_office(schema: &Schema) -> bool
+pub(crate) fn has_office(schema: &Schema) -> bool
     ensures value { IsTrue result ↔ HasIndexed schema.now office [] }
 {
     let Some(table) = find_table(schema, "office") else {
@@ -60,7 +60,7 @@ fn has_office(schema: &Schema) -> bool
 }
 
 /// Whether the schema has the table of architectures, with the index of its key alone.
-fn has_archs(schema: &Schema) -> bool
+pub(crate) fn has_archs(schema: &Schema) -> bool
     ensures value { IsTrue result ↔ HasIndexed schema.now arch (automatic arch 0 (1 ∷ []) 2 ∷ []) }
 {
     let Some(table) = find_table(schema, "arch") else {
@@ -71,7 +71,7 @@ fn has_archs(schema: &Schema) -> bool
 }
 
 /// Whether the schema has the table of builders, with the index of its key alone.
-fn has_builders(schema: &Schema) -> bool
+pub(crate) fn has_builders(schema: &Schema) -> bool
     ensures value { IsTrue result
         ↔ HasIndexed schema.now builder (automatic builder 0 (1 ∷ 2 ∷ []) 4 ∷ []) }
 {
@@ -185,7 +185,7 @@ fn is_source_record(table: &Table) -> bool
 }
 
 /// Whether it is the table of the source packages of a merge, in whatever tree.
-fn is_scratch_source(table: &Table) -> bool
+pub(crate) fn is_scratch_source(table: &Table) -> bool
     ensures value { IsTrue result ↔ (table.now ≡ table_at table.now.tree scratch_source) }
 {
     let columns = [
@@ -203,7 +203,7 @@ fn is_scratch_source(table: &Table) -> bool
 }
 
 /// Whether it is the table of the binary packages of a merge, in whatever tree.
-fn is_scratch_binary(table: &Table) -> bool
+pub(crate) fn is_scratch_binary(table: &Table) -> bool
     ensures value { IsTrue result ↔ (table.now ≡ table_at table.now.tree scratch_binary) }
 {
     let columns = [
