@@ -1,5 +1,5 @@
 -- The cells of a row tell what it stands for.
-use Rattle.std.proofs.Common.{◌≡◌, ℕ, ℤ, Bool, true, false, List, [], ◌∷◌, ◌++◌, Option, Some, None, refl, sym, ap, subst, suc, arith}
+use Rattle.std.proofs.Common.{◌≡◌, ℕ, ℤ, Bool, true, false, List, [], ◌∷◌, ◌++◌, Option, Some, None, refl, sym, ap, subst, suc, arith, ◌∙◌}
 use Rattle.sqlite.specs.declared.types.Value.{Value}
 use Rattle.sqlite.specs.declared.types.Value.TheVariants.{Int}
 use Rattle.sqlite.specs.Order.{Row, column}
@@ -10,6 +10,7 @@ use Rattle.wb_states.specs.Queue.{Entry, rank_of}
 use Rattle.wb_states.specs.State.{code_of}
 use Rattle.wb_states.proofs.CodeLemmas.{code_of-differ}
 use Rattle.wb_rows.specs.Cells.{record_cells, arch_cells, builder_cells, number, number_or_null, flag, text_or_null}
+use Rattle.wb_rows.specs.FirstSchema.{IsOfFirst, first_cells, first_rank_of, shared_cells}
 use Rattle.wb_rows.specs.Reading.{HasColumns, field_cells, state_cell, text_cell}
 
 -- ---- one cell
@@ -41,7 +42,7 @@ flag-same true false e = let same = number-same 1 0 e in absurd (omega arith)
 flag-same false true e = let same = number-same 0 1 e in absurd (omega arith)
 flag-same false false e = refl
 
-state-same : (a b : State) → state_cell a ≡ state_cell b → a ≡ b
+pub state-same : (a b : State) → state_cell a ≡ state_cell b → a ≡ b
 state-same a b e = code_of-differ a b (number-same (code_of a) (code_of b) e)
 
 -- ---- columns, one after another
@@ -83,6 +84,33 @@ entry-same a b (arch, (source, (state, (version, (priority, (section, (built, (r
         build_priority = int-same a.1.build_priority b.1.build_priority urgency i;
       },
     )
+
+-- so it is with those of the first schema
+pub first-same : (a b : Entry) → IsOfFirst a.1 → IsOfFirst b.1 → HasColumns (first_cells a) 0 (shared_cells b) → a ≡ b
+first-same a b one other (arch, (source, (state, (version, (priority, (section, (built, (rebuild, (holder, (take, (waits, (depends, (note, (message, end)))))))))))))) =
+    λ i. (
+      (text-same a.0.0 b.0.0 arch i, text-same a.0.1 b.0.1 source i),
+      record {
+        state = state-same a.1.state b.1.state state i;
+        version = text-same a.1.version b.1.version version i;
+        priority = text-same a.1.priority b.1.priority priority i;
+        section = text-same a.1.section b.1.section section i;
+        earlier = flag-same a.1.earlier b.1.earlier built i;
+        number = number-same a.1.number b.1.number rebuild i;
+        holder = text_or_null-same a.1.holder b.1.holder holder i;
+        take = number_or_null-same a.1.take b.1.take take i;
+        waits = text-same a.1.waits b.1.waits waits i;
+        depends = text_or_null-same a.1.depends b.1.depends depends i;
+        note = text-same a.1.note b.1.note note i;
+        message = text-same a.1.message b.1.message message i;
+        build_priority = (one.build_priority ∙ sym other.build_priority) i;
+      },
+    )
+
+-- no two entries of the first schema have one row
+pub first_cells-same : (a b : Entry) → IsOfFirst a.1 → IsOfFirst b.1 → first_cells a ≡ first_cells b → a ≡ b
+first_cells-same a b one other e =
+    first-same a b one other (subst (λ (row : Row). HasColumns row 0 (shared_cells b)) (sym e) (begins (shared_cells b) (number (first_rank_of b.1) ∷ [])))
 
 -- no two entries have one row
 pub record_cells-same : (a b : Entry) → record_cells a ≡ record_cells b → a ≡ b

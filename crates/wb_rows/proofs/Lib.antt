@@ -1,4 +1,5 @@
 pub mod FaultLemmas
+pub mod FirstLemmas
 pub mod BackLemmas
 pub mod CellsLemmas
 pub mod ColumnLemmas

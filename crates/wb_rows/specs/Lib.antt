@@ -1,4 +1,5 @@
 pub mod Cells
+pub mod FirstSchema
 pub mod Forms
 pub mod Reading
 pub mod Scratch

@@ -1,8 +1,9 @@
 //! The key and the fields of a record, a few columns at a time.
-ghost use Rattle.std.specs.Prelude.{◌≡◌, [], ◌∷◌, length, IfOk, IfErr};
+ghost use Rattle.std.specs.Prelude.{◌≡◌, ◌≤◌, [], ◌∷◌, length, IfOk, IfErr};
 ghost use Rattle.sqlite.specs.declared.types.Value.TheVariants.{Int};
 ghost use Rattle.wb_rows.specs.declared.fault.RowFault.TheVariants.{Malformed};
 ghost use Rattle.wb_rows.specs.Cells.{number, number_or_null, flag, text_or_null};
+ghost use Rattle.wb_rows.specs.FirstSchema.{IsNoFirst, IsNoStart, IsOfFirst, shared_fields};
 ghost use Rattle.wb_rows.specs.Reading.{HasColumns, IsNoRecord, field_cells, state_cell, text_cell};
 
 use crate::columns::{
@@ -17,10 +18,10 @@ use wb_states::{Record, State};
 
 /// The architecture and the source package of a record.
 pub(crate) fn key_of(row: &Row) -> Result<(Text, Text), RowFault>
-    requires { length row.now ≡ 16 }
+    requires { 14 ≤ length row.now }
     ensures value { IfOk result (λ made.
         HasColumns row.now 0 (text_cell made.0 ∷ text_cell made.1 ∷ [])) }
-    ensures refused { IfErr result (λ fault. fault ≡ Malformed → IsNoRecord row.now) }
+    ensures refused { IfErr result (λ fault. fault ≡ Malformed → IsNoStart row.now) }
 {
     let arch = text_at(row, 0)?;
     let source = text_at(row, 1)?;
@@ -57,11 +58,44 @@ pub(crate) fn fields_of(row: &Row) -> Result<Record, RowFault>
     })
 }
 
+/// The fields of a record of the first schema, its rank not compared. It has no build priority, which is then 0, and no
+/// failed build attempt.
+pub(crate) fn first_fields_of(row: &Row) -> Result<Record, RowFault>
+    requires { length row.now ≡ 15 }
+    ensures value { IfOk result (λ made. HasColumns row.now 2 (shared_fields made) × IsOfFirst made) }
+    ensures refused { IfErr result (λ fault. fault ≡ Malformed → IsNoFirst row.now) }
+{
+    let (state, version) = standing_of(row)?;
+    if state == State::BuildAttempted {
+        return Err(RowFault::Malformed);
+    }
+    let (priority, section) = labels_of(row)?;
+    let (earlier, number) = builds_of(row)?;
+    let (holder, take) = hold_of(row)?;
+    let (waits, depends) = needs_of(row)?;
+    let (note, message) = remarks_of(row)?;
+    Ok(Record {
+        state,
+        version,
+        priority,
+        section,
+        earlier,
+        number,
+        holder,
+        take,
+        waits,
+        depends,
+        note,
+        message,
+        build_priority: 0,
+    })
+}
+
 fn standing_of(row: &Row) -> Result<(State, Version), RowFault>
-    requires { length row.now ≡ 16 }
+    requires { 14 ≤ length row.now }
     ensures value { IfOk result (λ made.
         HasColumns row.now 2 (state_cell made.0 ∷ text_cell made.1 ∷ [])) }
-    ensures refused { IfErr result (λ fault. fault ≡ Malformed → IsNoRecord row.now) }
+    ensures refused { IfErr result (λ fault. fault ≡ Malformed → IsNoStart row.now) }
 {
     let state = state_at(row, 2)?;
     let version = version_at(row, 3)?;
@@ -69,10 +103,10 @@ fn standing_of(row: &Row) -> Result<(State, Version), RowFault>
 }
 
 fn labels_of(row: &Row) -> Result<(Text, Text), RowFault>
-    requires { length row.now ≡ 16 }
+    requires { 14 ≤ length row.now }
     ensures value { IfOk result (λ made.
         HasColumns row.now 4 (text_cell made.0 ∷ text_cell made.1 ∷ [])) }
-    ensures refused { IfErr result (λ fault. fault ≡ Malformed → IsNoRecord row.now) }
+    ensures refused { IfErr result (λ fault. fault ≡ Malformed → IsNoStart row.now) }
 {
     let priority = text_at(row, 4)?;
     let section = text_at(row, 5)?;
@@ -80,10 +114,10 @@ fn labels_of(row: &Row) -> Result<(Text, Text), RowFault>
 }
 
 fn builds_of(row: &Row) -> Result<(bool, u16), RowFault>
-    requires { length row.now ≡ 16 }
+    requires { 14 ≤ length row.now }
     ensures value { IfOk result (λ made.
         HasColumns row.now 6 (flag made.0 ∷ number made.1 ∷ [])) }
-    ensures refused { IfErr result (λ fault. fault ≡ Malformed → IsNoRecord row.now) }
+    ensures refused { IfErr result (λ fault. fault ≡ Malformed → IsNoStart row.now) }
 {
     let earlier = flag_at(row, 6)?;
     let number = rebuild_at(row, 7)?;
@@ -91,10 +125,10 @@ fn builds_of(row: &Row) -> Result<(bool, u16), RowFault>
 }
 
 fn hold_of(row: &Row) -> Result<(Option<Text>, Option<u64>), RowFault>
-    requires { length row.now ≡ 16 }
+    requires { 14 ≤ length row.now }
     ensures value { IfOk result (λ made.
         HasColumns row.now 8 (text_or_null made.0 ∷ number_or_null made.1 ∷ [])) }
-    ensures refused { IfErr result (λ fault. fault ≡ Malformed → IsNoRecord row.now) }
+    ensures refused { IfErr result (λ fault. fault ≡ Malformed → IsNoStart row.now) }
 {
     let holder = optional_text_at(row, 8)?;
     let take = optional_number_at(row, 9)?;
@@ -102,10 +136,10 @@ fn hold_of(row: &Row) -> Result<(Option<Text>, Option<u64>), RowFault>
 }
 
 fn needs_of(row: &Row) -> Result<(Text, Option<Text>), RowFault>
-    requires { length row.now ≡ 16 }
+    requires { 14 ≤ length row.now }
     ensures value { IfOk result (λ made.
         HasColumns row.now 10 (text_cell made.0 ∷ text_or_null made.1 ∷ [])) }
-    ensures refused { IfErr result (λ fault. fault ≡ Malformed → IsNoRecord row.now) }
+    ensures refused { IfErr result (λ fault. fault ≡ Malformed → IsNoStart row.now) }
 {
     let waits = text_at(row, 10)?;
     let depends = optional_text_at(row, 11)?;
@@ -113,10 +147,10 @@ fn needs_of(row: &Row) -> Result<(Text, Option<Text>), RowFault>
 }
 
 fn remarks_of(row: &Row) -> Result<(Text, Text), RowFault>
-    requires { length row.now ≡ 16 }
+    requires { 14 ≤ length row.now }
     ensures value { IfOk result (λ made.
         HasColumns row.now 12 (text_cell made.0 ∷ text_cell made.1 ∷ [])) }
-    ensures refused { IfErr result (λ fault. fault ≡ Malformed → IsNoRecord row.now) }
+    ensures refused { IfErr result (λ fault. fault ≡ Malformed → IsNoStart row.now) }
 {
     let note = text_at(row, 12)?;
     let message = text_at(row, 13)?;

@@ -3,15 +3,19 @@ ghost use Rattle.std.specs.Prelude.{◌≡◌, IfOk, IfErr, IfSome, IfNone};
 ghost use Rattle.wb_rows.specs.declared.fault.RowFault.TheVariants.{Malformed};
 ghost use Rattle.wb_states.specs.Lookups.{entry_of};
 ghost use Rattle.wb_rows.specs.Cells.{arch_cells, builder_cells, record_cells, state_cells};
+ghost use Rattle.wb_rows.specs.FirstSchema.{IsNoFirst, IsOfFirst, first_cells};
 ghost use Rattle.wb_rows.specs.Reading.{IsNoArch, IsNoBuilder, IsNoRecord, IsNoState};
 
 use crate::columns::{number_at, state_at, text_at};
 use crate::fault::RowFault;
-use crate::fields::{fields_of, key_of};
+use crate::fields::{fields_of, first_fields_of, key_of};
 use deb_text::Text;
 use sqlite::Row;
 use std::alloc::AllocError;
 use wb_states::{KeyedRecord, OsCpu, State, rank};
+
+/// What the rank of a record is greater by than its rank by the first schema, where its build priority is 0.
+const RANK_STEP: u64 = 348000;
 
 /// The record, with its key, whose row this is: one of exactly 16 columns, each of its type, with the number of a
 /// state, a version, 1 or 0 for what is or is not so, numbers that fit, and the rank of the record in the last
@@ -40,6 +44,43 @@ fn read_record(row: &Row) -> Result<KeyedRecord, RowFault>
     let current = fields_of(row)?;
     let place = number_at(row, 15)?;
     if place != u64::from(rank(&current)) {
+        return Err(RowFault::Malformed);
+    }
+    Ok(KeyedRecord {
+        arch,
+        source,
+        current,
+    })
+}
+
+/// The record, with its key, whose row this is in the first schema: one of exactly 15 columns, each of its type, with the
+/// number of one of the nine states that this schema knows, a version, 1 or 0 for what is or is not so, numbers that fit,
+/// and the rank of the record by this schema in the last column, which is 348000 less than by the second. Its build
+/// priority is 0. None if the row is not that of a record; nothing is repaired. The only error is that memory ran out
+/// (this project's own).
+pub fn first_record_of(row: &Row) -> Result<Option<KeyedRecord>, AllocError>
+    ensures value { IfOk result (λ found. IfSome found (λ made.
+        (row.now ≡ first_cells (entry_of made)) × IsOfFirst made.current)) }
+    ensures none { IfOk result (λ found. IfNone found (IsNoFirst row.now)) }
+{
+    match read_first_record(row) {
+        Ok(made) => Ok(Some(made)),
+        Err(RowFault::Malformed) => Ok(None),
+        Err(RowFault::Memory) => Err(AllocError),
+    }
+}
+
+fn read_first_record(row: &Row) -> Result<KeyedRecord, RowFault>
+    ensures value { IfOk result (λ made. (row.now ≡ first_cells (entry_of made)) × IsOfFirst made.current) }
+    ensures refused { IfErr result (λ fault. fault ≡ Malformed → IsNoFirst row.now) }
+{
+    if row.column_count() != 15 {
+        return Err(RowFault::Malformed);
+    }
+    let (arch, source) = key_of(row)?;
+    let current = first_fields_of(row)?;
+    let place = number_at(row, 14)?;
+    if place.saturating_add(RANK_STEP) != u64::from(rank(&current)) {
         return Err(RowFault::Malformed);
     }
     Ok(KeyedRecord {
