@@ -16,7 +16,6 @@ use Rattle.wb_states.specs.Machine.{Machine, empty_office}
 use Rattle.wb_states.specs.Refusals.{is_of_store}
 use Rattle.wb_step.specs.Checks.{MayWantMemory, text_refusal}
 use Rattle.wb_step.specs.Step.{Outcome, step}
-use Rattle.wb_step.specs.Offices.{StandsOn}
 use Rattle.wb_step.specs.TextChecks.{ChecksTexts}
 use Rattle.wb_step.proofs.OfficeLemmas.{refusal-cases}
 use Rattle.wb_step.proofs.StateRefusalLemmas.{IsOfState, step-of-state}

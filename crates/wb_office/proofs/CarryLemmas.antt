@@ -19,7 +19,7 @@ use Rattle.wb_store.specs.Settled.{IsSettled, IsUnderWay, IsBackAt, SettlesBy, T
 use Rattle.wb_store.proofs.OthersLemmas.{others_still}
 use Rattle.wb_store.proofs.SettledLemmas.{begins, office_stands}
 use Rattle.wb_office.specs.declared.carry.CarryError.{CarryError}
-use Rattle.wb_office.specs.declared.carry.CarryError.TheVariants.{TakenBack, RollBackFailed, InDoubt}
+use Rattle.wb_office.specs.declared.carry.CarryError.TheVariants.{InDoubt}
 use Rattle.wb_office.specs.Changed.{IsStepOf, IsLeftOrBack, ChangesBy}
 use Rattle.wb_office.specs.Carried.{failure_of, LeavesAs, FailsAtChange, FailsAtCommit, EndsFor, HoldsStep, CarriesOut}
 use Rattle.wb_store.specs.Settled.{begun}

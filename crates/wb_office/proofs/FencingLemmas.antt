@@ -1,10 +1,9 @@
 -- What lives find is fenced.
-use Rattle.std.proofs.Common.{◌≡◌, ◌⊎◌, ℕ, inl, inr, List, [], ◌∷◌, refl, sym, ap, subst, ◌∙◌}
+use Rattle.std.proofs.Common.{◌≡◌, ◌⊎◌, inl, inr, List, [], ◌∷◌, sym, ap, subst, ◌∙◌}
 use Rattle.wb_states.specs.declared.command.Command.{Command}
 use Rattle.wb_states.specs.declared.store_fault.StoreFault.{StoreFault}
 use Rattle.wb_states.specs.Machine.{Machine}
 use Rattle.wb_step.proofs.HandOutLemmas.{ends, rise}
-use Rattle.wb_rows.specs.declared.cell.TableRow.{TableRow}
 use Rattle.wb_office.specs.declared.history.Found.{Found}
 use Rattle.wb_office.specs.declared.history.Found.TheVariants.{Opened, Refused}
 use Rattle.wb_office.specs.Fencing.{AreFenced}

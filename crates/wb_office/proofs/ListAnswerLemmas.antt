@@ -1,21 +1,20 @@
 -- What is answered to a merge of lists that readers give, from what a merge of feeds in a transaction makes.
-use Rattle.std.proofs.Common.{◌≡◌, ◌⊎◌, ◌∙◌, refl, sym, ap, subst, inl, inr, ℕ, ◌+◌, Bool, true, false, not, nat_le, List, [], ◌∷◌, Option, Some, None, Result, Ok, Err, Vec}
+use Rattle.std.proofs.Common.{◌≡◌, ◌⊎◌, ◌∙◌, refl, sym, ap, subst, inl, inr, ℕ, ◌+◌, Bool, true, false, not, nat_le, List, Option, Some, None, Result, Ok, Err, Vec}
 use Rattle.std.proofs.lemmas.Bool.{both_ways}
 use Rattle.std.specs.List.{AllZip}
 use Rattle.sqlite_trees.specs.declared.store.Store.{Ghosts}
 use Rattle.sqlite.specs.Held.{Held, state}
-use Rattle.sqlite.specs.State.{State, HasCleanDisk}
+use Rattle.sqlite.specs.State.{State}
 use Rattle.deb_control.specs.Feed.{MayStandAt}
 use Rattle.deb_control.specs.FeedState.{FeedState, fresh}
 use Rattle.wb_states.specs.declared.counts.Counts.{Counts}
 use Rattle.wb_states.specs.declared.refusal.Refusal.{Refusal}
 use Rattle.wb_states.specs.declared.refusal.Refusal.TheVariants.{Memory, Spent}
 use Rattle.wb_states.specs.declared.reply.PartReply.{PartReply}
-use Rattle.wb_states.specs.declared.reply.Reply.{Reply}
 use Rattle.wb_states.specs.declared.reply.Reply.TheVariants.{Merged}
 use Rattle.wb_states.specs.declared.store_fault.StoreFault.{StoreFault}
 use Rattle.wb_states.specs.Limits.{count_limit}
-use Rattle.wb_states.specs.Machine.{Machine, IsConsistent}
+use Rattle.wb_states.specs.Machine.{Machine}
 use Rattle.wb_merge.specs.Merged.{Records}
 use Rattle.wb_step.specs.Step.{Outcome}
 use Rattle.wb_archive.specs.declared.merge.PartList.{PartList}
@@ -25,7 +24,6 @@ use Rattle.wb_archive.specs.Readers.{IsFeedOf, IsMergeOf, archs_refusal, merge_o
 use Rattle.wb_archive.proofs.ReaderLemmas.{feeds-merge, feeds-unread}
 use Rattle.wb_store.specs.Finds.{Finds, StaysAs}
 use Rattle.wb_store.specs.Opening.{AreCountsOf}
-use Rattle.wb_store.specs.Settled.{LeavesEither}
 use Rattle.wb_store.proofs.OthersLemmas.{others_then}
 use Rattle.wb_store.proofs.StaysLemmas.{was_clean}
 use Rattle.wb_office.specs.declared.answer.Failure.{Failure}

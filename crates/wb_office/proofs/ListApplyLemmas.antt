@@ -1,5 +1,5 @@
 -- What an office answers to a merge of lists that readers give, and how it stands then.
-use Rattle.std.proofs.Common.{◌≡◌, ◌≢◌, ◌⊎◌, ◌∙◌, refl, sym, ap, subst, inl, inr, ℕ, Bool, true, false, List, [], ◌∷◌, Option, Some, None, Result, Ok, Err, IsTrue, IfOk, IfErr}
+use Rattle.std.proofs.Common.{◌≡◌, ◌≢◌, ◌∙◌, refl, sym, ap, subst, inl, inr, ℕ, Bool, true, false, List, [], ◌∷◌, Option, Some, None, Result, Ok, Err, IsTrue, IfOk, IfErr}
 use Rattle.std.proofs.lemmas.Bool.{both_ways}
 use Rattle.std.proofs.lemmas.Result.{IfOk-weaker}
 use Rattle.std.specs.List.{AllZip}
@@ -23,17 +23,16 @@ use Rattle.wb_archive.specs.declared.merge.PartList.{PartList}
 use Rattle.wb_archive.specs.declared.merge_from.ArchList.{ArchList}
 use Rattle.wb_archive.specs.Readers.{IsFeedOf, IsListOf, IsMergeOf, MayLeave, archs_refusal, has_bad_arch, has_repeated_arch}
 use Rattle.wb_archive.proofs.ReaderLemmas.{names-refused, texts-step}
-use Rattle.wb_store.specs.Settled.{IsBackAt, IsSettled, LeavesEither}
+use Rattle.wb_store.specs.Settled.{IsBackAt, LeavesEither}
 use Rattle.wb_store.proofs.SettledLemmas.{settled_back}
 use Rattle.wb_office.specs.declared.answer.Failure.{Failure}
 use Rattle.wb_office.specs.declared.answer.Failure.TheVariants.{Refused, Unread, Uncommitted}
 use Rattle.wb_office.specs.declared.carry.CarryError.{CarryError}
 use Rattle.wb_office.specs.declared.carry.CarryError.TheVariants.{TakenBack, RollBackFailed, InDoubt}
 use Rattle.wb_office.specs.declared.known.Known.{Known}
-use Rattle.wb_office.specs.Applies.{Ends, refusal_for, refusal_of}
+use Rattle.wb_office.specs.Applies.{Ends, refusal_for}
 use Rattle.wb_office.specs.AppliesLists.{AppliesLists, AreListsApplied, AreListsRefused}
-use Rattle.wb_office.specs.Failed.{FailsToMergeLists, HasFailed}
-use Rattle.wb_office.specs.Kinds.{IsOfStep}
+use Rattle.wb_office.specs.Failed.{HasFailed}
 use Rattle.wb_office.specs.ListAnswers.{AreListsLeft, ListsLeaveAs, RespondsLists}
 use Rattle.wb_office.specs.Standing.{Knows, LeavesOne, StandsAt}
 use Rattle.wb_office.proofs.ApplyLemmas.{at_err, either_of, if_err, none_opens, not_closed_by, open_or_shut, same_err, settled_at, stays_shut}

@@ -1,11 +1,10 @@
 -- How a merge of lists is made in a transaction of the office, and how it stops.
-use Rattle.std.proofs.Common.{◌≡◌, ◌⊎◌, ◌≤◌, ◌+◌, Bool, true, false, cond, List, [], ◌∷◌, None, Some, Option, inl, inr, Result, Ok, Err, IfOk, IfErr, OnOk, IsTrue, Vec, nat_le, refl, sym, ap, subst, ◌∙◌}
+use Rattle.std.proofs.Common.{◌≡◌, ◌≤◌, ◌+◌, Bool, true, false, cond, List, [], ◌∷◌, None, Some, inl, inr, Result, Ok, Err, IsTrue, Vec, nat_le, refl, sym, ap, subst, ◌∙◌}
 use Rattle.std.specs.Bool.{⊤}
 use Rattle.std.specs.List.{AllByRecursion, list_any}
 use Rattle.sqlite_trees.specs.declared.store.Store.{Ghosts}
 use Rattle.sqlite.specs.Effect.{Database}
 use Rattle.sqlite.specs.Held.{Held, state}
-use Rattle.sqlite.specs.Tree.{Trees}
 use Rattle.sqlite.specs.State.{State, HasCleanDisk, IsRolledBack, IsUnchanged, Survives}
 use Rattle.sqlite.proofs.StateLemmas.{survives_then, survives_weaker}
 use Rattle.deb_control.specs.declared.fault.ControlFault.{ControlFault}
@@ -28,19 +27,19 @@ use Rattle.wb_archive.specs.declared.fault.MergeFault.{MergeFault}
 use Rattle.wb_archive.specs.declared.fault.MergeFault.TheVariants as merge_fault
 use Rattle.wb_archive.specs.declared.merge.PartList.{PartList}
 use Rattle.wb_archive.specs.Faults.{StopsAs}
-use Rattle.wb_archive.specs.Merges.{IsMergeOfLists, IsPartUnread, IsUnread}
-use Rattle.wb_archive.specs.Parts.{IsPartEnd, IsPartRefusal}
+use Rattle.wb_archive.specs.Merges.{IsMergeOfLists}
+use Rattle.wb_archive.specs.Parts.{IsPartEnd}
 use Rattle.wb_archive.specs.Readers.{refusal_by, refusal_in}
-use Rattle.wb_archive.specs.Tables.{Contents, Tables, with_records}
+use Rattle.wb_archive.specs.Tables.{Tables, with_records}
 use Rattle.wb_archive.proofs.EndLemmas.{kinds_of_store}
 use Rattle.wb_store.specs.Calls.{Changes, FailsToLookUp}
 use Rattle.wb_store.specs.Faults.{IsUnfit}
 use Rattle.wb_store.specs.Merging.{Scratch}
-use Rattle.wb_store.specs.MergeRuns.{FailsAfter, FailsAtCall, FailsIn, GoesOn, HoldsSome, HoldsTables, IsMerging, RunsOn, RunsTo, scratch_of}
+use Rattle.wb_store.specs.MergeRuns.{FailsAtCall, FailsIn, HoldsSome, HoldsTables, IsMerging, RunsOn, RunsTo, scratch_of}
 use Rattle.wb_store.specs.MergeLaws.{runs_to_then}
 use Rattle.wb_store.specs.Queries.{OfficeQuery}
 use Rattle.wb_store.specs.ScratchLookups as scratch
-use Rattle.wb_store.specs.Settled.{IsBackAt, IsOffice, IsSettled, IsUnderWay, IsUnderWayWith, StandsForTrees}
+use Rattle.wb_store.specs.Settled.{IsBackAt, IsOffice, IsUnderWay, IsUnderWayWith, StandsForTrees}
 use Rattle.wb_store.specs.Stands.{StandsFor, StandsWith}
 use Rattle.wb_store.specs.Writes as write
 use Rattle.wb_store.proofs.MergeRunLemmas.{goes_on_becoming}
@@ -48,7 +47,7 @@ use Rattle.wb_store.proofs.SettledLemmas.{office_trees}
 use Rattle.wb_store.proofs.StaysLemmas.{was_clean}
 use Rattle.wb_office.specs.declared.merge_lists.Stop.{Stop}
 use Rattle.wb_office.specs.declared.merge_lists.Stop.TheVariants.{Failed, Refused}
-use Rattle.wb_office.specs.MergeLists.{AreListsDone, AreListsToRead, FailsToMerge, IfFailed, IfRefused, IsLeftWithLists, IsMergedIn, IsRefusedMerge, MergesLists, counted, fault_in, merged_office}
+use Rattle.wb_office.specs.MergeLists.{AreListsDone, AreListsToRead, FailsToMerge, IfFailed, IfRefused, IsLeftWithLists, IsMergedIn, IsRefusedMerge, MergesLists, counted, fault_in}
 use Rattle.wb_office.specs.Turns.{IsNoOffice}
 
 -- ---- before a merge

@@ -1,11 +1,10 @@
 -- How a report is carried out over tables: its lines are read, the records that they name are looked up, and what differs is kept.
-use Rattle.std.proofs.Common.{◌≡◌, ◌≢◌, ◌∙◌, refl, sym, ap, subst, inl, inr, ℕ, ◌+◌, Bool, true, false, cond, not, ◌||◌, List, [], ◌∷◌, ◌++◌, map as each, length, drop, get_or, ◌<◌, Option, Some, None, option_map, option_and_then, Result, Ok, Err, IfOk, IfErr, IsErrAnd, IsTrue, OnOk, bytes_eq, append_assoc}
+use Rattle.std.proofs.Common.{◌≡◌, ◌≢◌, ◌∙◌, refl, sym, ap, subst, inl, inr, ℕ, ◌+◌, true, false, cond, not, ◌||◌, List, [], ◌∷◌, ◌++◌, map as each, length, drop, get_or, ◌<◌, Option, Some, None, option_map, option_and_then, Result, Ok, Err, IfOk, IfErr, IsErrAnd, IsTrue, bytes_eq, append_assoc}
 use Rattle.std.proofs.lemmas.List.{map-append}
 use Rattle.std.specs.List.{cons_option, list_any}
 use Rattle.std.specs.FinMap as map
 use Rattle.sqlite_trees.specs.declared.store.Store.{Ghosts}
 use Rattle.sqlite.specs.Held.{Held, state}
-use Rattle.sqlite.specs.State.{HasCleanDisk}
 use Rattle.wb_states.specs.declared.arch.OsCpu.{OsCpu}
 use Rattle.wb_states.specs.declared.command.Command.{Command}
 use Rattle.wb_states.specs.declared.command.Command.TheVariants as of
@@ -36,9 +35,7 @@ use Rattle.wb_step.specs.Named.{listed}
 use Rattle.wb_step.specs.Step.{Outcome, lines_said, outcome, step}
 use Rattle.wb_step.specs.Utf8.{HasUtf8Texts}
 use Rattle.wb_step.proofs.ReportingLemmas.{first_refusal-Report, report-bad, report-wants, want-Report}
-use Rattle.wb_store.specs.Finds.{FailsToFind, Finds}
-use Rattle.wb_store.specs.Opening.{AreCountsOf}
-use Rattle.wb_store.specs.Settled.{IsBackAt, IsSettled}
+use Rattle.wb_store.specs.Settled.{IsSettled}
 use Rattle.wb_office.specs.declared.answer.Answered.{Answered}
 use Rattle.wb_office.specs.declared.answer.Failure.{Failure}
 use Rattle.wb_office.specs.declared.answer.Failure.TheVariants.{Refused, Unread, Uncommitted}

@@ -1,9 +1,8 @@
 -- Records are written, and then the counts.
-use Rattle.std.proofs.Common.{◌≡◌, inl, inr, refl, List, map as each, Result, Ok, Err, OnOk, arith}
+use Rattle.std.proofs.Common.{inl, inr, refl, List, Result, Ok, Err, arith}
 use Rattle.std.specs.Prelude.{⊤}
 use Rattle.sqlite_trees.specs.declared.store.Store.{Ghosts}
 use Rattle.sqlite.specs.Held.{Held, state}
-use Rattle.sqlite.specs.State.{HasCleanDisk}
 use Rattle.wb_sql.proofs.CallLemmas.{on_ok}
 use Rattle.wb_states.specs.declared.counts.Counts.{Counts}
 use Rattle.wb_states.specs.declared.store_fault.StoreFault.{StoreFault}
@@ -16,7 +15,7 @@ use Rattle.wb_store.specs.Faults.{IsUnfit}
 use Rattle.wb_store.specs.Writes as write
 use Rattle.wb_store.specs.Writes.{OfficeWrite}
 use Rattle.wb_office.specs.RowWrites.{HasTakeOverLimit, PutsOne}
-use Rattle.wb_office.specs.Rows.{CannotWriteRows, HaveFit, IsWriteOfRows, WritesRows, rows_written}
+use Rattle.wb_office.specs.Rows.{CannotWriteRows, HaveFit, IsWriteOfRows, WritesRows}
 use Rattle.wb_office.specs.Turns.{ChangesInTurn}
 use Rattle.wb_office.proofs.TurnLemmas.{for_more, not_made, one_change, then_changes}
 use Rattle.wb_office.proofs.WriteLemmas.{becomes_then, reached_stands}

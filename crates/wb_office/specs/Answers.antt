@@ -1,5 +1,5 @@
 -- What the office answers to a command that is carried out over its tables, and where it then stands.
-use Rattle.std.specs.Prelude.{◌≡◌, ◌⊎◌, ⊤, ℕ, ◌+◌, Bool, true, false, List, Option, Result, Ok, Err, IfOk, IfErr, OnOk}
+use Rattle.std.specs.Prelude.{◌≡◌, ◌⊎◌, ℕ, ◌+◌, Bool, true, false, List, Option, Result, Ok, Err, IfOk, IfErr, OnOk}
 use Rattle.std.specs.FinMap as map
 use Rattle.sqlite_trees.specs.declared.store.Store.{Ghosts}
 use Rattle.sqlite.specs.Held.{Held, state}
@@ -16,7 +16,7 @@ use Rattle.wb_states.specs.declared.reply.Reply.TheVariants as is
 use Rattle.wb_states.specs.declared.refusal.Refusal.TheVariants.{Memory}
 use Rattle.wb_states.specs.Machine.{Machine, Key, IsConsistent}
 use Rattle.wb_states.specs.Queue.{Entry}
-use Rattle.wb_states.specs.Refusals.{IsOfMachine, is_of_store}
+use Rattle.wb_states.specs.Refusals.{IsOfMachine}
 use Rattle.wb_step.specs.Checks.{MayWantMemory}
 use Rattle.wb_step.specs.Named.{part_named}
 use Rattle.wb_step.specs.Step.{step}

@@ -11,7 +11,6 @@ use Rattle.wb_states.specs.declared.store_fault.StoreFault.{StoreFault}
 use Rattle.wb_states.specs.declared.store_fault.StoreFault.TheVariants.{Device}
 use Rattle.wb_states.specs.Limits.{count_limit}
 use Rattle.wb_states.specs.Machine.{Machine}
-use Rattle.wb_states.specs.Refusals.{is_of_store}
 use Rattle.wb_merge.specs.Merged.{Records}
 use Rattle.wb_store.specs.Ending.{IsFaultOfCommit, IsFaultOfRollBack}
 use Rattle.wb_store.specs.Others.{KeepsOthers}

@@ -1,4 +1,4 @@
-use Rattle.std.proofs.Common.{◌∙◌, Err, Ok, sym, subst}
+use Rattle.std.proofs.Common.{◌∙◌, Ok, sym, subst}
 use Rattle.wb_store.proofs.ReadLemmas.{handed_on}
 use Rattle.wb_office.specs.ListAnswers.{RespondsLists}
 use Rattle.wb_office.proofs.ListAnswerLemmas.{idle_by, inside_by, lists_kept, lists_not_begun, lists_not_idle, lists_not_kept, lists_unread}
