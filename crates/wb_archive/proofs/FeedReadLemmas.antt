@@ -1,5 +1,5 @@
 -- A feed, as a reader of a list.
-use Rattle.std.proofs.Common.{◌≡◌, ◌≢◌, ◌∙◌, Option, None, Some, Result, Ok, Err, refl, inl, inr, ◌⊎◌, List}
+use Rattle.std.proofs.Common.{◌≡◌, ◌≢◌, ◌+◌, ◌∙◌, Option, None, Some, Result, Ok, Err, refl, inl, inr, ◌⊎◌, List}
 use Rattle.std.specs.Prelude.{IfErr, IfOk}
 use Rattle.std.specs.Option.{option_map}
 use Rattle.deb_control.specs.declared.fault.ControlFault.{ControlFault}
@@ -41,9 +41,11 @@ feed-answers (Err fault) old new gives = tt
 pub feed-refuses : (result : Result (Option (List FieldText)) ControlFault) (old new : FeedState)
     → IfErr result (λ fault. fault.kind ≡ Read → ReadEnds old fault new)
     → IfErr result (λ fault. fault.kind ≢ Memory → fault.kind ≢ Read → AnswersFor (Err fault) old new)
-    → IfErr result (λ fault. fault.kind ≢ Memory → IsFeedBreak new fault ⊎ MayStandWhere MayStandAt old (λ place. (step place).0 ≡ Err fault))
+    → IfErr result (λ fault. fault.kind ≢ Memory
+    → (IsFeedBreak new fault × (fault.paragraph ≡ old.passed + 1)) ⊎ MayStandWhere MayStandAt old (λ place. (step place).0 ≡ Err fault))
 feed-refuses (Ok found) old new ends refuses = tt
 feed-refuses (Err fault) old new ends refuses = λ memory. by (is-read fault.kind) memory where
-  by : (fault.kind ≡ Read) ⊎ (fault.kind ≢ Read) → fault.kind ≢ Memory → IsFeedBreak new fault ⊎ MayStandWhere MayStandAt old (λ place. (step place).0 ≡ Err fault)
-  by (inl read) memory = inl (record { kind = read; before = old; ends = ends read })
+  by : (fault.kind ≡ Read) ⊎ (fault.kind ≢ Read) → fault.kind ≢ Memory
+      → (IsFeedBreak new fault × (fault.paragraph ≡ old.passed + 1)) ⊎ MayStandWhere MayStandAt old (λ place. (step place).0 ≡ Err fault)
+  by (inl read) memory = inl (record { kind = read; before = old; ends = ends read }, (ends read).refuses.paragraph)
   by (inr other) memory = inr (stood-answering (Err fault) old new (refuses memory other))

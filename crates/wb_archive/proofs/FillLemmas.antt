@@ -1,5 +1,5 @@
 -- A list that is read into a table, paragraph by paragraph.
-use Rattle.std.proofs.Common.{◌≡◌, ℕ, ◌+◌, ◌<◌, Bool, true, false, cond, List, [], ◌∷◌, ◌++◌, filter, Option, None, Some, Result, Ok, Err, refl, sym, ap, subst, ◌∙◌, inl, inr, append_assoc, append-nil, arith}
+use Rattle.std.proofs.Common.{◌≡◌, ℕ, ◌+◌, ◌<◌, Bool, true, false, cond, List, [], ◌∷◌, ◌++◌, filter, Option, None, Some, Result, Ok, Err, refl, sym, ap, subst, ◌∙◌, inl, inr, append-nil, arith}
 use Rattle.std.specs.Prelude.{IfSome}
 use Rattle.std.specs.List.{AllByRecursion}
 use Rattle.std.specs.Result.{result_map_both}
@@ -15,10 +15,10 @@ use Rattle.wb_states.specs.declared.scratch.BinaryRow.{BinaryRow}
 use Rattle.wb_merge.specs.Rows.{onto_rows}
 use Rattle.wb_merge.specs.Scratch.{present}
 use Rattle.wb_archive.specs.declared.fault.BadList.{BadList}
-use Rattle.wb_archive.specs.Faults.{IsRefused}
 use Rattle.wb_archive.specs.Fills.{WithRows, binaries_wanted, is_binary_wanted, is_source_wanted, sources_wanted}
-use Rattle.wb_archive.specs.Reads.{GivesRow, MayStandWhere, kept_at}
+use Rattle.wb_archive.specs.Reads.{GivesRow, IsRefused, MayStandWhere, ReadsTo, kept_at}
 use Rattle.wb_archive.specs.Tables.{IsAfterBinaries}
+use Rattle.wb_archive.proofs.ReadLemmas.{kept-fields}
 
 -- ---- facts of each row
 
@@ -36,48 +36,64 @@ all-weaken P Q step (x ∷ xs) h = (step x h.0, all-weaken P Q step xs h.1)
 abbrev pub onto_all : {X : Type 0} → List X → Result (List X) Refusal → Result (List X) Refusal
 onto_all done rows = result_map_both (λ rows. done ++ rows) (λ refusal. refusal) rows
 
-onto-row : {X : Type 0} (done : List X) (x : X) (later : Result (List X) Refusal) → onto_all done (onto_rows (Ok x) later) ≡ onto_all (done ++ x ∷ []) later
-onto-row done x (Ok rows) = ap (λ (l : _). Ok l) (sym (append_assoc done (x ∷ []) rows))
+onto-row : {X : Type 0} (done : List X) (x : X) (later : Result (List X) Refusal) → onto_rows (Ok x) (onto_all done later) ≡ onto_all (x ∷ done) later
+onto-row done x (Ok rows) = refl
 onto-row done x (Err refusal) = refl
 
 onto-none : {X : Type 0} (rows : Result (List X) Refusal) → rows ≡ onto_all [] rows
 onto-none (Ok rows) = refl
 onto-none (Err refusal) = refl
 
--- so many paragraphs of a list were read, and the table has of their rows those that can matter: wherever the reader may stand now, it may have begun at a list that has these rows first
-pub record IsHalfFilled {R X Y : Type 0} (MayStand : R → ReaderState → Type 0) (which : ListKind) (row_at : ℕ → List FieldText → Result X Refusal) (wanted : List X → List Y)
+-- what is kept from a place on is what was read from there, and then what is kept of the rest
+reads-kept : {X : Type 0} (which : ListKind) (row_at : ℕ → List FieldText → Result X Refusal) (rows : List X) (place after : ReaderState) → ReadsTo row_at rows place after
+    → kept_at which row_at place ≡ onto_all rows (kept_at which row_at after)
+reads-kept which row_at [] place after reads = ap (kept_at which row_at) (sym reads) ∙ onto-none (kept_at which row_at after)
+reads-kept which row_at (row ∷ rows) place after (fields, (next, (steps, (is, reads)))) =
+    kept-fields which row_at place next place.passed fields row steps refl is
+    ∙ ap (onto_rows (Ok row)) (reads-kept which row_at rows next after reads)
+    ∙ onto-row rows row (kept_at which row_at after)
+
+-- paragraphs that were read, and then others
+reads-then : {X : Type 0} (row_at : ℕ → List FieldText → Result X Refusal) (rows later : List X) (place middle after : ReaderState) → ReadsTo row_at rows place middle
+    → ReadsTo row_at later middle after → ReadsTo row_at (rows ++ later) place after
+reads-then row_at [] later place middle after one two = subst (λ (p : ReaderState). ReadsTo row_at later p after) one two
+reads-then row_at (row ∷ rows) later place middle after (fields, (next, (steps, (is, reads)))) two =
+    (fields, (next, (steps, (is, reads-then row_at rows later next middle after reads two))))
+
+-- so many paragraphs of a list were read, and the table has of their rows those that can matter: wherever the reader may stand now, it may have begun at a place from which these were read
+pub record IsHalfFilled {R X Y : Type 0} (MayStand : R → ReaderState → Type 0) (row_at : ℕ → List FieldText → Result X Refusal) (wanted : List X → List Y)
     (number : Y → ℕ) (Holds : List Y → Type 0) (start : R) (list : R) (counted : ℕ) (passed : ℕ) : Type 0 where
   pub count : passed ≡ counted
   pub done : List X
-  pub ahead : (after : ReaderState) → MayStand list after → MayStandWhere MayStand start (λ place. kept_at which row_at place ≡ onto_all done (kept_at which row_at after))
+  pub reads : (after : ReaderState) → MayStand list after → MayStandWhere MayStand start (λ place. ReadsTo row_at done place after)
   pub holds : Holds (wanted done)
   pub below : AllByRecursion (λ row. number row < passed + 1) (wanted done)
 
-module _ {R X Y : Type 0} (MayStand : R → ReaderState → Type 0) (which : ListKind) (row_at : ℕ → List FieldText → Result X Refusal) (wanted : List X → List Y) (number : Y → ℕ) where
+module _ {R X Y : Type 0} (MayStand : R → ReaderState → Type 0) (row_at : ℕ → List FieldText → Result X Refusal) (wanted : List X → List Y) (number : Y → ℕ) where
   -- before the first paragraph
   pub half-start : (Holds : List Y → Type 0) (start : R) (counted : ℕ) → counted ≡ 0 → wanted [] ≡ [] → Holds []
-      → IsHalfFilled MayStand which row_at wanted number Holds start start counted 0
+      → IsHalfFilled MayStand row_at wanted number Holds start start counted 0
   half-start Holds start counted first none holds = record {
     count = sym first;
     done = [];
-    ahead = λ after here. (after, (here, onto-none (kept_at which row_at after)));
+    reads = λ after here. (after, (here, refl));
     holds = subst Holds (sym none) holds;
     below = subst (AllByRecursion (λ row. number row < 0 + 1)) (sym none) tt;
   }
 
   -- one paragraph more
   pub half-step : {Holds More : List Y → Type 0} (start list next : R) (counted more_counted passed : ℕ)
-      → (half : IsHalfFilled MayStand which row_at wanted number Holds start list counted passed) (x : X)
-      → GivesRow MayStand which row_at list x next → more_counted ≡ counted + 1 → wanted (half.done ++ x ∷ []) ≡ wanted half.done ++ wanted (x ∷ [])
+      → (half : IsHalfFilled MayStand row_at wanted number Holds start list counted passed) (x : X)
+      → GivesRow MayStand row_at list x next → more_counted ≡ counted + 1 → wanted (half.done ++ x ∷ []) ≡ wanted half.done ++ wanted (x ∷ [])
       → More (wanted half.done ++ wanted (x ∷ [])) → AllByRecursion (λ row. number row ≡ passed + 1) (wanted (x ∷ []))
-      → IsHalfFilled MayStand which row_at wanted number More start next more_counted (passed + 1)
+      → IsHalfFilled MayStand row_at wanted number More start next more_counted (passed + 1)
   half-step {More = More} start list next counted more_counted passed half x gives one split more numbered = record {
     count = ap (λ n. n + 1) half.count ∙ sym one;
     done = half.done ++ x ∷ [];
-    ahead = λ after here.
+    reads = λ after here.
         let middle = gives after here in
-        let before = half.ahead middle.0 middle.1.0 in
-        (before.0, (before.1.0, before.1.1 ∙ ap (onto_all half.done) middle.1.1 ∙ onto-row half.done x (kept_at which row_at after)));
+        let before = half.reads middle.0 middle.1.0 in
+        (before.0, (before.1.0, reads-then row_at half.done (x ∷ []) before.0 middle.0 after before.1.1 middle.1.1));
     holds = subst More (sym split) more;
     below = subst (AllByRecursion (λ row. number row < passed + 1 + 1)) (sym split)
         (all-append (λ row. number row < passed + 1 + 1) (wanted half.done) (wanted (x ∷ []))
@@ -86,26 +102,34 @@ module _ {R X Y : Type 0} (MayStand : R → ReaderState → Type 0) (which : Lis
   }
 
   -- after the last paragraph
-  pub half-ended : {Holds : List Y → Type 0} (start list : R) (counted passed : ℕ)
-      → (half : IsHalfFilled MayStand which row_at wanted number Holds start list counted passed) → MayStandWhere MayStand list (λ place. kept_at which row_at place ≡ Ok [])
+  pub half-ended : {Holds : List Y → Type 0} (which : ListKind) (start list : R) (counted passed : ℕ)
+      → (half : IsHalfFilled MayStand row_at wanted number Holds start list counted passed) → MayStandWhere MayStand list (λ place. kept_at which row_at place ≡ Ok [])
       → MayStandWhere MayStand start (λ place. WithRows (kept_at which row_at place) (λ rows. Holds (wanted rows)))
-  half-ended {Holds = Holds} start list counted passed half ended =
-      let before = half.ahead ended.0 ended.1.0 in
-      let is : kept_at which row_at before.0 ≡ Ok half.done = before.1.1 ∙ ap (onto_all half.done) ended.1.1 ∙ ap (λ (l : List X). Ok l) (append-nil half.done) in
+  half-ended {Holds = Holds} which start list counted passed half ended =
+      let before = half.reads ended.0 ended.1.0 in
+      let is : kept_at which row_at before.0 ≡ Ok half.done = reads-kept which row_at half.done before.0 ended.0 before.1.1 ∙ ap (onto_all half.done) ended.1.1 ∙ ap (λ (l : List X). Ok l) (append-nil half.done) in
       (before.0, (before.1.0, subst (λ k. WithRows k (λ rows. Holds (wanted rows))) (sym is) half.holds))
 
   -- a refusal of the paragraphs ahead is one of the list, of which the table has some rows
-  pub half-refused : {Holds : List Y → Type 0} (Breaks : R → ControlFault → Type 0) (start list reader : R) (counted passed : ℕ) (bad : BadList)
-      → (half : IsHalfFilled MayStand which row_at wanted number Holds start list counted passed)
-      → MayStandWhere MayStand list (λ place. IsRefused Breaks reader (kept_at which row_at place) bad)
-      → MayStandWhere MayStand start (λ place. IsRefused Breaks reader (kept_at which row_at place) bad × ((left : List Y) × Holds left))
-  half-refused Breaks start list reader counted passed bad half refused =
-      let before = half.ahead refused.0 refused.1.0 in
+  pub half-refused : {Holds : List Y → Type 0} (which : ListKind) (Breaks : R → ControlFault → Type 0) (start list reader : R) (counted passed : ℕ) (bad : BadList)
+      → (half : IsHalfFilled MayStand row_at wanted number Holds start list counted passed)
+      → MayStandWhere MayStand list (λ place. IsRefused Breaks reader which row_at place bad)
+      → MayStandWhere MayStand start (λ place. IsRefused Breaks reader which row_at place bad × ((left : List Y) × Holds left))
+  half-refused which Breaks start list reader counted passed bad half refused =
+      let before = half.reads refused.0 refused.1.0 in
       (before.0, (before.1.0, (at before.0 before.1.1 refused.1.1, (wanted half.done, half.holds)))) where
-        at : (place : ReaderState) → kept_at which row_at place ≡ onto_all half.done (kept_at which row_at refused.0)
-            → IsRefused Breaks reader (kept_at which row_at refused.0) bad → IsRefused Breaks reader (kept_at which row_at place) bad
-        at place e (inl breaks) = inl breaks
-        at place e (inr is) = inr (e ∙ ap (onto_all half.done) is)
+        at : (place : ReaderState) → ReadsTo row_at half.done place refused.0 → IsRefused Breaks reader which row_at refused.0 bad → IsRefused Breaks reader which row_at place bad
+        at place reads (inl broken) = inl (record {
+          broke = broken.broke;
+          list = broken.list;
+          read = record {
+            rows = half.done ++ broken.read.rows;
+            last = broken.read.last;
+            reads = reads-then row_at half.done broken.read.rows place refused.0 broken.read.last reads broken.read.reads;
+            next = broken.read.next;
+          };
+        })
+        at place reads (inr is) = inr (reads-kept which row_at half.done place refused.0 reads ∙ ap (onto_all half.done) is)
 
 -- ---- rows that can matter
 

@@ -1,5 +1,5 @@
 -- Merges of lists whose texts are known: what a merge made of lists is what it makes of these texts.
-use Rattle.std.proofs.Common.{◌≡◌, ℕ, List, [], ◌∷◌, Option, None, Some, Result, refl, sym, ap, subst, ◌∙◌}
+use Rattle.std.proofs.Common.{◌≡◌, ℕ, List, [], ◌∷◌, Option, None, Some, Result, refl, sym, ap, subst, ◌∙◌, inl, inr}
 use Rattle.std.specs.Prelude.{IfOk}
 use Rattle.std.specs.FinMap as finite
 use Rattle.std.specs.List.{AllByRecursion, AllZip}
@@ -9,14 +9,16 @@ use Rattle.deb_control.specs.Paragraphs.{ReaderState, begun}
 use Rattle.deb_relations.specs.declared.arch.ArchWords.{ArchWords}
 use Rattle.wb_states.specs.declared.arch.OsCpu.{OsCpu}
 use Rattle.wb_states.specs.declared.command.Part.{Part}
+use Rattle.wb_states.specs.declared.refusal.Refusal.{Refusal}
 use Rattle.wb_states.specs.declared.reply.PartReply.{PartReply}
 use Rattle.wb_states.specs.Machine.{Machine, with_words}
+use Rattle.wb_merge.specs.Listing.{ArchiveListing}
 use Rattle.wb_merge.specs.Merged.{Records}
 use Rattle.wb_merge.specs.Scratch.{kept_binaries, kept_sources, listing_kept}
 use Rattle.wb_merge.proofs.ScratchLemmas.{listing_of-kept}
 use Rattle.wb_step.specs.Parts.{end_with, listing_for, part_listing, records_with}
 use Rattle.wb_archive.specs.declared.merge.PartList.{PartList}
-use Rattle.wb_archive.specs.Merges.{ArePartsDone, BeginsAt, IsGiven, IsMergeDone, IsMergeOfLists, IsPartOf, IsPartUnread, IsUnread, MayBeginAt}
+use Rattle.wb_archive.specs.Merges.{ArePartsDone, BeginsAt, IsGiven, IsMergeDone, IsMergeOfLists, IsPartCutOff, IsPartOf, IsPartUnread, IsUnread, MayBeginAt}
 use Rattle.wb_archive.specs.Parts.{binaries_at}
 use Rattle.wb_archive.specs.Reads.{sources_at}
 use Rattle.wb_archive.proofs.MergeLemmas.{binaries-begun, sources-begun}
@@ -49,6 +51,21 @@ unfolding part_listing
 listing-alike machine text other part given alike same packages =
     ap (λ arch. listing_for text part (finite.get machine.archs arch)) same ∙ words-alike text other part given (finite.get machine.archs given.arch) alike same packages
 
+-- what a part was given, by lists with the same paragraphs
+pub given-alike : {R : Type 0} (Breaks : R → ControlFault → Type 0) (machine : Machine) (text other : List ℕ) (part given : Part) (listing : Result ArchiveListing Refusal)
+    → AreAlike text other → part.arch ≡ given.arch → AreAlike part.packages given.packages
+    → IsGiven Breaks machine text part listing → IsGiven Breaks machine other given listing
+given-alike Breaks machine text other part given listing alike same packages (inl is) = inl (is ∙ listing-alike machine text other part given alike same packages)
+given-alike Breaks machine text other part given listing alike same packages (inr (bad, (off, is))) = inr (
+  bad,
+  (
+    subst (λ (place : ReaderState). IsPartCutOff Breaks machine given.arch (begun (paragraphs_in (lines_of other))) place bad) packages
+        (subst (λ (place : ReaderState). IsPartCutOff Breaks machine given.arch place (begun (paragraphs_in (lines_of part.packages))) bad) alike
+        (subst (λ (arch : List ℕ). IsPartCutOff Breaks machine arch (begun (paragraphs_in (lines_of text))) (begun (paragraphs_in (lines_of part.packages))) bad) same off)),
+    is,
+  ),
+)
+
 -- ---- readers that begin at a text and may begin at no other
 
 -- a reader that begins at a text was not read
@@ -69,8 +86,8 @@ module _ {R : Type 0} (MayStand : R → ReaderState → Type 0) (Breaks : R → 
   -- what became of the parts, by the texts at which their readers begin
   parts-known : (parts : List (PartList R)) (found given : List Part) (records last : Records) (replies : List PartReply)
       → AllZip (IsPartOf (MayBeginAt MayStand) machine) parts found → AllZip (IsPartOf (BeginsAt MayStand) machine) parts given
-      → ArePartsDone (λ of. IsGiven Breaks (part_listing machine text of)) found records replies last
-      → ArePartsDone (λ of. IsGiven Breaks (part_listing machine known of)) given records replies last
+      → ArePartsDone (IsGiven Breaks machine text) found records replies last
+      → ArePartsDone (IsGiven Breaks machine known) given records replies last
   parts-known [] [] [] records last [] may begins done = done
   parts-known [] [] [] records last (reply ∷ replies) may begins done = absurd done
   parts-known [] (of ∷ found) given records last replies may begins done = absurd may
@@ -80,14 +97,14 @@ module _ {R : Type 0} (MayStand : R → ReaderState → Type 0) (Breaks : R → 
   parts-known (part ∷ parts) (of ∷ found) (is ∷ given) records last [] may begins done = absurd done
   parts-known (part ∷ parts) (of ∷ found) (is ∷ given) records last (reply ∷ replies) may begins done =
       let same : of.arch ≡ is.arch = sym may.0.arch ∙ begins.0.arch in
-      let listing = listing-alike machine text known of is alike same (begins.0.begins (begun (paragraphs_in (lines_of of.packages))) may.0.begins) in (
+      let packages = begins.0.begins (begun (paragraphs_in (lines_of of.packages))) may.0.begins in (
         done.0,
         (
-          subst (λ l. IsGiven Breaks l done.0) listing done.1.0,
+          given-alike Breaks machine text known of is done.0 alike same packages done.1.0,
           (
             done.1.1.0 ∙ (λ i. record { arch = same i; end = end_with records (same i) done.0 }),
             parts-known parts found given (records_with records is.arch done.0) last replies may.1 begins.1
-                (subst (λ arch. ArePartsDone (λ of. IsGiven Breaks (part_listing machine text of)) found (records_with records arch done.0) replies last) same done.1.1.1),
+                (subst (λ arch. ArePartsDone (IsGiven Breaks machine text) found (records_with records arch done.0) replies last) same done.1.1.1),
           ),
         ),
       )
@@ -97,7 +114,7 @@ pub merge-known : {R : Type 0} (MayStand : R → ReaderState → Type 0) (Breaks
     (parts : List (PartList R)) (records : Records) (replies : List PartReply) (text : List ℕ) (given : List Part)
     → BeginsAt MayStand sources text → AllZip (IsPartOf (BeginsAt MayStand) machine) parts given
     → IsMergeOfLists MayStand Breaks machine Holds sources parts records replies
-    → IsMergeDone (λ of. IsGiven Breaks (part_listing machine text of)) Holds given records replies
+    → IsMergeDone (IsGiven Breaks machine text) Holds given records replies
 merge-known MayStand Breaks machine Holds sources parts records replies text given begins zip lists =
     let done = lists.merged.done in
     record {
@@ -113,7 +130,7 @@ pub answer-known : {R X F : Type 0} (MayStand : R → ReaderState → Type 0) (B
     → BeginsAt MayStand sources text → AllZip (IsPartOf (BeginsAt MayStand) machine) parts given
     → (IsUnread MayStand sources → AllByRecursion (IsPartUnread MayStand machine) parts
     → IfOk answer (λ x. IsMergeOfLists MayStand Breaks machine Holds sources parts records (replies_of x)))
-    → IfOk answer (λ x. IsMergeDone (λ of. IsGiven Breaks (part_listing machine text of)) Holds given records (replies_of x))
+    → IfOk answer (λ x. IsMergeDone (IsGiven Breaks machine text) Holds given records (replies_of x))
 answer-known MayStand Breaks machine Holds sources parts records replies_of answer text given begins zip merged =
     if-ok-map _ _ answer (λ x lists. merge-known MayStand Breaks machine Holds sources parts records (replies_of x) text given begins zip lists)
     (merged (begins-unread MayStand sources text begins) (parts-unread MayStand machine parts given zip))

@@ -1,5 +1,6 @@
 -- The parts of a merge, one after another.
 use Rattle.std.proofs.Common.{◌≡◌, ℕ, List, [], ◌∷◌, ◌++◌, Option, None, Some, Result, Ok, Err, refl, sym, ap, ap₂, subst, ◌∙◌, inl, inr, append_assoc, append-nil}
+use Rattle.std.specs.Prelude.{IsOk}
 use Rattle.std.specs.FinMap as finite
 use Rattle.std.specs.List.{AllByRecursion, AllZip}
 use Rattle.deb_control.specs.declared.fault.ControlFault.{ControlFault}
@@ -9,6 +10,7 @@ use Rattle.deb_relations.specs.declared.arch.ArchWords.{ArchWords}
 use Rattle.deb_text.specs.Lists.{IsIn}
 use Rattle.wb_states.specs.declared.arch.OsCpu.{OsCpu}
 use Rattle.wb_states.specs.declared.command.Part.{Part}
+use Rattle.wb_states.specs.declared.refusal.ListKind.TheVariants.{Sources}
 use Rattle.wb_states.specs.declared.refusal.Refusal.{Refusal}
 use Rattle.wb_states.specs.declared.refusal.Refusal.TheVariants.{UnknownArch}
 use Rattle.wb_states.specs.declared.reply.PartEnd.{PartEnd}
@@ -18,23 +20,22 @@ use Rattle.wb_states.specs.declared.scratch.SourceRow.{SourceRow}
 use Rattle.wb_states.specs.Machine.{Machine, with_words}
 use Rattle.wb_merge.specs.Listing.{ArchiveListing}
 use Rattle.wb_merge.specs.Merged.{Records}
-use Rattle.wb_merge.specs.Scratch.{kept_binaries, kept_sources, listing_kept}
+use Rattle.wb_merge.specs.Scratch.{kept_binaries, kept_sources, listing_kept, source_row_at}
 use Rattle.wb_merge.proofs.ScratchLemmas.{listing_of-kept}
 use Rattle.wb_step.specs.Parts.{end_with, listing_for, part_listing, part_replies, records_after, records_with}
 use Rattle.wb_archive.specs.declared.fault.BadList.{BadList}
 use Rattle.wb_archive.specs.declared.merge.PartList.{PartList}
 use Rattle.wb_archive.specs.Faults.{refusal_of}
-use Rattle.wb_archive.specs.Merges.{ArePartsDone, IsGiven, IsMergeOfParts, IsPartMerged, IsPartOf, IsPartUnread, IsUnread, MayBeginAt, arch_of, archs_of}
+use Rattle.wb_archive.specs.Merges.{ArePartsDone, IsCutOff, IsGiven, IsMergeOfParts, IsPartMerged, IsPartOf, IsPartUnread, IsUnread, MayBeginAt, arch_of, archs_of}
 use Rattle.wb_archive.specs.Parts.{IsListing, IsPartDone, binaries_at, listing_from}
 use Rattle.wb_archive.specs.Fills.{IsFilled, WithRows, sources_wanted}
-use Rattle.wb_archive.specs.Faults.{IsRefused}
-use Rattle.wb_archive.specs.Reads.{sources_at}
+use Rattle.wb_archive.specs.Reads.{IsRefused, sources_at}
 use Rattle.wb_archive.specs.Sources.{AreAllKnown, AreKnown, HasSources}
 
 -- a part of an architecture that was never added
 pub part-unknown : {R : Type 0} (Breaks : R → ControlFault → Type 0) (Holds : Records → Type 0) (machine : Machine) (text : List ℕ) (of : Part) (records : Records)
     → finite.get machine.archs of.arch ≡ None → Holds records
-    → IsPartDone (IsGiven Breaks (part_listing machine text of)) Holds records of.arch (Refused UnknownArch)
+    → IsPartDone (IsGiven Breaks machine text of) Holds records of.arch (Refused UnknownArch)
 unfolding part_listing
 part-unknown Breaks Holds machine text of records none holds = record {
   listing = Err UnknownArch;
@@ -52,17 +53,21 @@ listing-known machine text of words some = ap (listing_for text of) some ∙ lis
 pub part-without-sources : {R : Type 0} (Breaks : R → ControlFault → Type 0) (Holds : Records → Type 0) (machine : Machine) (text : List ℕ) (archs : List ArchWords)
     (table : List SourceRow) (of : Part) (words : OsCpu) (records : Records) (bad : BadList) (end : PartEnd)
     → finite.get machine.archs of.arch ≡ Some words → HasSources Breaks text archs table (Some bad) → end ≡ Refused (refusal_of bad) → Holds records
-    → IsPartDone (IsGiven Breaks (part_listing machine text of)) Holds records of.arch end
+    → IsPartDone (IsGiven Breaks machine text of) Holds records of.arch end
 part-without-sources Breaks Holds machine text archs table of words records bad end some has is holds = record {
   listing = Err (refusal_of bad);
   gives = at has;
   is = is;
   holds = holds;
 } where
-  at : HasSources Breaks text archs table (Some bad) → IsGiven Breaks (part_listing machine text of) (Err (refusal_of bad))
-  at (inl broke) = inr (broke.0, (bad, (broke.1, refl)))
+  at : HasSources Breaks text archs table (Some bad) → IsGiven Breaks machine text of (Err (refusal_of bad))
+  at (inl broke) = inr (bad, (record { words = words; known = some; reader = broke.0; cut = inl broke.1 }, refl))
   at (inr e) = inl (sym (listing-known machine text of words some
       ∙ ap (λ sources. listing_kept (with_words of.arch words) sources (kept_binaries (with_words of.arch words) of.packages)) e))
+
+pub sources-begun : (text : List ℕ) → sources_at (begun (paragraphs_in (lines_of text))) ≡ kept_sources text
+unfolding kept_sources
+sources-begun text = refl
 
 pub binaries-begun : (arch : ArchWords) (packages : List ℕ) → binaries_at arch (begun (paragraphs_in (lines_of packages))) ≡ kept_binaries arch packages
 unfolding kept_binaries
@@ -72,8 +77,8 @@ binaries-begun arch packages = refl
 pub part-with-sources : {R : Type 0} (Breaks : R → ControlFault → Type 0) (reader : R) (Holds : Records → Type 0) (machine : Machine) (text : List ℕ)
     (of : Part) (words : OsCpu) (records : Records) (rows : List SourceRow) (end : PartEnd)
     → finite.get machine.archs of.arch ≡ Some words → kept_sources text ≡ Ok rows
-    → IsPartDone (IsListing Breaks reader (listing_from (with_words of.arch words) rows (begun (paragraphs_in (lines_of of.packages))))) Holds records of.arch end
-    → IsPartDone (IsGiven Breaks (part_listing machine text of)) Holds records of.arch end
+    → IsPartDone (IsListing Breaks reader (with_words of.arch words) rows (begun (paragraphs_in (lines_of of.packages)))) Holds records of.arch end
+    → IsPartDone (IsGiven Breaks machine text of) Holds records of.arch end
 part-with-sources Breaks reader Holds machine text of words records rows end some kept done = record {
   listing = done.listing;
   gives = at done.gives;
@@ -84,10 +89,12 @@ part-with-sources Breaks reader Holds machine text of words records rows end som
   same = ap₂ (listing_kept (with_words of.arch words)) (sym kept) (binaries-begun (with_words of.arch words) of.packages)
       ∙ sym (listing-known machine text of words some)
 
-  at : IsListing Breaks reader (listing_from (with_words of.arch words) rows (begun (paragraphs_in (lines_of of.packages)))) done.listing
-      → IsGiven Breaks (part_listing machine text of) done.listing
+  whole : IsOk (sources_at (begun (paragraphs_in (lines_of text))))
+  whole = subst IsOk (sym (sources-begun text ∙ kept)) refl
+
+  at : IsListing Breaks reader (with_words of.arch words) rows (begun (paragraphs_in (lines_of of.packages))) done.listing → IsGiven Breaks machine text of done.listing
   at (inl e) = inl (e ∙ same)
-  at (inr broke) = inr (reader, broke)
+  at (inr broke) = inr (broke.0, (record { words = words; known = some; reader = reader; cut = inr (whole, broke.1.0) }, broke.1.1))
 
 -- ---- the list of a part
 
@@ -202,13 +209,9 @@ known-all (part ∷ parts) = (
 
 -- ---- Sources
 
-pub sources-begun : (text : List ℕ) → sources_at (begun (paragraphs_in (lines_of text))) ≡ kept_sources text
-unfolding kept_sources
-sources-begun text = refl
-
 -- what a Sources list left in the tables
 pub sources-read : {R : Type 0} (Breaks : R → ControlFault → Type 0) (reader : R) (Holds : List SourceRow → Type 0) (text : List ℕ) (archs : List ArchWords) (bad : Option BadList)
-    → IsFilled (sources_at (begun (paragraphs_in (lines_of text)))) (sources_wanted archs) Holds (IsRefused Breaks reader (sources_at (begun (paragraphs_in (lines_of text))))) bad
+    → IsFilled (sources_at (begun (paragraphs_in (lines_of text)))) (sources_wanted archs) Holds (IsRefused Breaks reader Sources source_row_at (begun (paragraphs_in (lines_of text)))) bad
     → (table : List SourceRow) × (Holds table × HasSources Breaks text archs table bad)
 sources-read Breaks reader Holds text archs None filled = at (kept_sources text) refl (subst (λ kept. WithRows kept (λ rows. Holds (sources_wanted archs rows))) (sources-begun text) filled) where
   at : (kept : Result (List SourceRow) Refusal) → kept_sources text ≡ kept → WithRows kept (λ rows. Holds (sources_wanted archs rows))
@@ -216,8 +219,8 @@ sources-read Breaks reader Holds text archs None filled = at (kept_sources text)
   at (Ok rows) e holds = (sources_wanted archs rows, (holds, subst (λ k. WithRows k (λ r. sources_wanted archs rows ≡ sources_wanted archs r)) (sym e) refl))
   at (Err refusal) e holds = absurd holds
 sources-read Breaks reader Holds text archs (Some bad) filled = (filled.1.0, (filled.1.1, at filled.0)) where
-  at : IsRefused Breaks reader (sources_at (begun (paragraphs_in (lines_of text)))) bad → HasSources Breaks text archs filled.1.0 (Some bad)
-  at (inl breaks) = inl (reader, breaks)
+  at : IsRefused Breaks reader Sources source_row_at (begun (paragraphs_in (lines_of text))) bad → HasSources Breaks text archs filled.1.0 (Some bad)
+  at (inl broken) = inl (reader, broken)
   at (inr e) = inr (sym (sources-begun text) ∙ e)
 
 -- rows of Sources that were read, with the rows that they have
@@ -230,21 +233,24 @@ has-rows text P = at (kept_sources text) where
 -- ---- merges of readers that do not break
 
 given-is : {R : Type 0} (Breaks : R → ControlFault → Type 0) → ((reader : R) (fault : ControlFault) → Breaks reader fault → ⊥)
-    → (listing given : Result ArchiveListing Refusal) → IsGiven Breaks listing given → given ≡ listing
-given-is Breaks never listing given (inl e) = e
-given-is Breaks never listing given (inr broke) = absurd (never broke.0 broke.1.1.0.broke broke.1.1.0.breaks)
+    → (machine : Machine) (text : List ℕ) (of : Part) (given : Result ArchiveListing Refusal) → IsGiven Breaks machine text of given → given ≡ part_listing machine text of
+given-is Breaks never machine text of given (inl e) = e
+given-is Breaks never machine text of given (inr (bad, (off, is))) = absurd (by off.cut) where
+  by : IsCutOff Breaks off.reader (with_words of.arch off.words) (begun (paragraphs_in (lines_of text))) (begun (paragraphs_in (lines_of of.packages))) bad → ⊥
+  by (inl broken) = never off.reader broken.broke.broke broken.broke.breaks
+  by (inr (whole, broken)) = never off.reader broken.broke.broke broken.broke.breaks
 
 -- if no reader breaks, the replies and the records are those of the lists
 pub parts-are : {R : Type 0} (Breaks : R → ControlFault → Type 0) → ((reader : R) (fault : ControlFault) → Breaks reader fault → ⊥)
     → (machine : Machine) (text : List ℕ) (given : List Part) (records last : Records) (replies : List PartReply)
-    → ArePartsDone (λ of. IsGiven Breaks (part_listing machine text of)) given records replies last
+    → ArePartsDone (IsGiven Breaks machine text) given records replies last
     → (replies ≡ part_replies machine text given records) × (last ≡ records_after machine text given records)
 parts-are Breaks never machine text [] records last [] done = (refl, done)
 parts-are Breaks never machine text [] records last (reply ∷ replies) done = absurd done
 parts-are Breaks never machine text (of ∷ ofs) records last [] done = absurd done
 parts-are Breaks never machine text (of ∷ ofs) records last (reply ∷ replies) done =
     let listing = done.0 in
-    let e = given-is Breaks never (part_listing machine text of) listing done.1.0 in
+    let e = given-is Breaks never machine text of listing done.1.0 in
     let rest = parts-are Breaks never machine text ofs (records_with records of.arch listing) last replies done.1.1.1 in (
       (λ i. done.1.1.0 i ∷ rest.0 i)
           ∙ (λ i. record { arch = of.arch; end = end_with records of.arch (e i) } ∷ part_replies machine text ofs (records_with records of.arch (e i))),

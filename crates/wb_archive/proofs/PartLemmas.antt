@@ -5,33 +5,34 @@ use Rattle.deb_control.specs.declared.fault.ControlFault.{ControlFault}
 use Rattle.deb_control.specs.Paragraphs.{ReaderState}
 use Rattle.deb_relations.specs.declared.arch.ArchWords.{ArchWords}
 use Rattle.deb_text.specs.Lists.{IsIn}
+use Rattle.wb_states.specs.declared.refusal.ListKind.TheVariants.{Packages}
 use Rattle.wb_states.specs.declared.refusal.Refusal.{Refusal}
 use Rattle.wb_states.specs.declared.reply.PartEnd.{PartEnd}
 use Rattle.wb_states.specs.declared.reply.PartEnd.TheVariants.{Merged, Refused}
 use Rattle.wb_states.specs.declared.scratch.SourceRow.{SourceRow}
 use Rattle.wb_states.specs.declared.scratch.BinaryRow.{BinaryRow}
 use Rattle.wb_merge.specs.Merged.{Records, merge_counts, merged}
-use Rattle.wb_merge.specs.Scratch.{listing_kept, listing_of_kept, present}
+use Rattle.wb_merge.specs.Scratch.{binary_row_at, listing_kept, listing_of_kept, present}
 use Rattle.wb_archive.specs.declared.fault.BadList.{BadList}
-use Rattle.wb_archive.specs.Faults.{IsRefused, refusal_of}
+use Rattle.wb_archive.specs.Faults.{refusal_of}
 use Rattle.wb_archive.specs.Fills.{WithRows, binaries_wanted, sources_wanted}
-use Rattle.wb_archive.specs.Parts.{IsListing, IsPartDone, listing_from}
-use Rattle.wb_archive.specs.Reads.{packages_at}
+use Rattle.wb_archive.specs.Parts.{IsListing, IsPartDone}
+use Rattle.wb_archive.specs.Reads.{IsRefused, packages_at}
 use Rattle.wb_archive.specs.Waited.{AreAllWaitedFor}
 use Rattle.wb_archive.proofs.FilterLemmas.{counts-same, cut-alike, merged-same}
 
 -- a part whose list is refused
 pub part-refused : {R : Type 0} (Breaks : R → ControlFault → Type 0) (reader : R) (Holds : Records → Type 0) (arch : ArchWords) (records : Records) (rows : List SourceRow)
-    (place : ReaderState) (bad : BadList) (end : PartEnd) → IsRefused Breaks reader (packages_at arch place) bad → end ≡ Refused (refusal_of bad) → Holds records
-    → IsPartDone (IsListing Breaks reader (listing_from arch rows place)) Holds records arch.name end
+    (place : ReaderState) (bad : BadList) (end : PartEnd) → IsRefused Breaks reader Packages (binary_row_at arch) place bad → end ≡ Refused (refusal_of bad) → Holds records
+    → IsPartDone (IsListing Breaks reader arch rows place) Holds records arch.name end
 part-refused Breaks reader Holds arch records rows place bad end refused is holds = record {
   listing = Err (refusal_of bad);
   gives = at refused;
   is = is;
   holds = holds;
 } where
-  at : IsRefused Breaks reader (packages_at arch place) bad → IsListing Breaks reader (listing_from arch rows place) (Err (refusal_of bad))
-  at (inl breaks) = inr (bad, (breaks, refl))
+  at : IsRefused Breaks reader Packages (binary_row_at arch) place bad → IsListing Breaks reader arch rows place (Err (refusal_of bad))
+  at (inl broken) = inr (bad, (broken, refl))
   at (inr e) = inl (sym (ap (λ (read : Result (List (Option BinaryRow)) Refusal). listing_kept arch (Ok rows) (result_map_both present (λ refusal. refusal) read)) e))
 
 -- what is so of rows is so of the list that has them
@@ -46,7 +47,7 @@ pub part-kept : {R : Type 0} (Breaks : R → ControlFault → Type 0) (reader : 
     → WithRows (packages_at arch place) (λ read. Stood (binaries_wanted waited read))
     → ((binaries : List BinaryRow) → Stood binaries → (end ≡ Merged (merge_counts records arch.name (listing_of_kept arch (sources_wanted archs rows) binaries)))
     × Holds (merged records arch.name (listing_of_kept arch (sources_wanted archs rows) binaries)))
-    → IsPartDone (IsListing Breaks reader (listing_from arch rows place)) Holds records arch.name end
+    → IsPartDone (IsListing Breaks reader arch rows place) Holds records arch.name end
 part-kept Breaks reader Holds Stood arch archs waited records rows place end there all stood step =
     let read = with-read (packages_at arch place) (λ read. Stood (binaries_wanted waited read)) stood in
     let done = step (binaries_wanted waited read.0) read.1.1 in

@@ -23,8 +23,8 @@ use Rattle.wb_merge.specs.Scratch.{binary_columns, binary_row_at, kept_behind, k
 use Rattle.wb_archive.specs.declared.fault.BadList.{BadList}
 use Rattle.wb_archive.specs.declared.fault.ReadFault.{ReadFault}
 use Rattle.wb_archive.specs.declared.fault.ReadFault.TheVariants.{Memory as NoMemory, Bad}
-use Rattle.wb_archive.specs.Faults.{IfBad, IsRefused, control_bad, refusal_of}
-use Rattle.wb_archive.specs.Reads.{AnswersFrom, GivesRow, MayStandWhere, kept_ahead, kept_at}
+use Rattle.wb_archive.specs.Faults.{IfBad, control_bad, refusal_of}
+use Rattle.wb_archive.specs.Reads.{AnswersFrom, GivesRow, IsRefused, MayStandWhere, kept_ahead, kept_at}
 
 only-ok : {X E : Type 0} (x y : X) → ◌≡◌ {A = Result X E} (Ok x) (Ok y) → x ≡ y
 only-ok x y e = cc
@@ -174,14 +174,15 @@ module _ {R : Type 0} (MayStand : R → ReaderState → Type 0) (passed_by : R �
       let before = answers after.0 after.1 in
       sym (counts new after.0 after.1) ∙ step-counts before.0 after.0 fields before.1.1 ∙ ap (λ n. n + 1) (counts old before.0 before.1.0)
 
-  module _ {X : Type 0} (which : ListKind) (row_at : ℕ → List FieldText → Result X Refusal) where
-    -- the fields of the next paragraph are kept
-    pub gives-row : (old new : R) (passed : ℕ) (fields : List FieldText) (row : X) → AnswersFrom MayStand old new (Ok (Some fields))
-        → passed ≡ passed_by old → row_at (passed + 1) fields ≡ Ok row → GivesRow MayStand which row_at old row new
-    gives-row old new passed fields row answers count is = λ after here.
-        let before = answers after here in
-        (before.0, (before.1.0, kept-fields which row_at before.0 after passed fields row before.1.1 (count ∙ sym (counts old before.0 before.1.0)) is))
+  -- the fields of the next paragraph are kept
+  pub gives-row : {X : Type 0} (row_at : ℕ → List FieldText → Result X Refusal) (old new : R) (passed : ℕ) (fields : List FieldText) (row : X)
+      → AnswersFrom MayStand old new (Ok (Some fields)) → passed ≡ passed_by old → row_at (passed + 1) fields ≡ Ok row → GivesRow MayStand row_at old row new
+  gives-row row_at old new passed fields row answers count is = λ after here.
+      let before = answers after here in
+      let at = subst (λ n. row_at (n + 1) fields ≡ Ok row) (count ∙ sym (counts old before.0 before.1.0)) is in
+      (before.0, (before.1.0, (fields, (after, (before.1.1, (at, refl))))))
 
+  module _ {X : Type 0} (which : ListKind) (row_at : ℕ → List FieldText → Result X Refusal) where
     -- the list has ended
     pub gives-end : (old new : R) → AnswersFrom MayStand old new (Ok None) → MayStandWhere MayStand old (λ place. kept_at which row_at place ≡ Ok [])
     gives-end old new answers =
@@ -192,7 +193,7 @@ module _ {R : Type 0} (MayStand : R → ReaderState → Type 0) (passed_by : R �
     module _ (Breaks : R → ControlFault → Type 0) where
       -- what a list that is refused says of its reader
       abbrev MayRefuse : R → R → BadList → Type 0
-      MayRefuse old new bad = MayStandWhere MayStand old (λ place. IsRefused Breaks new (kept_at which row_at place) bad)
+      MayRefuse old new bad = MayStandWhere MayStand old (λ place. IsRefused Breaks new which row_at place bad)
 
       -- the fields of the next paragraph are refused
       pub refuses-fields : (old new : R) (passed : ℕ) (fields : List FieldText) (refusal : Refusal) (fault : ReadFault) → AnswersFrom MayStand old new (Ok (Some fields))
@@ -216,14 +217,29 @@ module _ {R : Type 0} (MayStand : R → ReaderState → Type 0) (passed_by : R �
 
       -- the reader refuses the next paragraph, or breaks
       pub refuses-control : (old new : R) (broke : ControlFault) (fault : ReadFault)
-          → (broke.kind ≢ OutOfMemory → Breaks new broke ⊎ MayStandWhere MayStand old (λ place. (step place).0 ≡ Err broke))
+          → (broke.kind ≢ OutOfMemory
+          → (Breaks new broke × (broke.paragraph ≡ passed_by old + 1)) ⊎ MayStandWhere MayStand old (λ place. (step place).0 ≡ Err broke))
           → IfBad fault (λ bad. (broke.kind ≢ OutOfMemory) × (bad ≡ control_bad which broke))
           → IfBad fault (MayRefuse old new)
       refuses-control old new broke fault is of = bad-map fault each of where
         each : (bad : BadList) → (broke.kind ≢ OutOfMemory) × (bad ≡ control_bad which broke) → MayRefuse old new bad
         each bad e = (elim (is e.0) [
-          | inl breaks ↦
-              ((stands old).0, ((stands old).1, inl (record { broke = broke; breaks = breaks; is = e.1 ∙ ap (λ (b : BadList). control_bad b.which broke) (sym e.1) })))
+          | inl breaks ↦ (
+            (stands old).0,
+            (
+              (stands old).1,
+              inl (record {
+                broke = record { broke = broke; breaks = breaks.0; is = e.1 ∙ ap (λ (b : BadList). control_bad b.which broke) (sym e.1) };
+                list = ap (λ (b : BadList). b.which) e.1;
+                read = record {
+                  rows = [];
+                  last = (stands old).0;
+                  reads = refl;
+                  next = ap (λ (b : BadList). b.paragraph) e.1 ∙ breaks.1 ∙ ap (λ n. n + 1) (sym (counts old (stands old).0 (stands old).1));
+                };
+              }),
+            ),
+          )
           | inr place ↦
               (place.0, (place.1.0, inr (refused-control which row_at place.0 broke place.1.1 ∙ ap (λ (b : BadList). Err (refusal_of b)) (sym e.1))))
         ])

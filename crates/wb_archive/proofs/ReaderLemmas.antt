@@ -1,5 +1,5 @@
 -- Merges of lists that readers give: what they come to, by the bytes that the readers have; and that they leave the office as the step of a command does.
-use Rattle.std.proofs.Common.{◌≡◌, ◌⊎◌, inl, inr, ℕ, ◌+◌, Bool, true, false, not, ◌||◌, cond, List, [], ◌∷◌, Option, None, Some, Result, Ok, Err, refl, sym, ap, subst, ◌∙◌}
+use Rattle.std.proofs.Common.{◌≡◌, inl, inr, ℕ, ◌+◌, Bool, true, false, not, ◌||◌, cond, List, [], ◌∷◌, Option, None, Some, Result, Ok, Err, refl, sym, ap, subst, ◌∙◌}
 use Rattle.std.proofs.lemmas.Bool.{false≢true}
 use Rattle.std.specs.Prelude.{bytes_eq, nat_le, is_ok, is_none, IsOk}
 use Rattle.std.specs.FinMap as finite
@@ -10,15 +10,16 @@ use Rattle.deb_control.specs.declared.fault.ControlFaultKind.TheVariants.{NoColo
 use Rattle.deb_control.specs.Feed.{MayStandAt}
 use Rattle.deb_control.specs.FeedState.{FeedState, fresh}
 use Rattle.deb_control.specs.Source.{MayBeLeft}
-use Rattle.deb_control.specs.Fields.{fault_of, form_fault, has_colon, line_fault, reading_of}
+use Rattle.deb_control.specs.Fields.{FieldText, fault_of, form_fault, has_colon, line_fault, reading_of}
 use Rattle.deb_control.specs.Lines.{body_of, is_separator, lines_of, paragraphs_in}
-use Rattle.deb_control.specs.Paragraphs.{begun}
+use Rattle.deb_control.specs.Paragraphs.{ReaderState, begun}
 use Rattle.deb_relations.specs.declared.arch.ArchWords.{ArchWords}
 use Rattle.deb_text.specs.Options.{first_some}
 use Rattle.deb_text.proofs.OptionLemmas.{first_some-None}
 use Rattle.wb_states.specs.declared.arch.OsCpu.{OsCpu}
 use Rattle.wb_states.specs.declared.command.Part.{Part}
-use Rattle.wb_states.specs.declared.refusal.ListKind.TheVariants.{Packages}
+use Rattle.wb_states.specs.declared.refusal.ListKind.{ListKind}
+use Rattle.wb_states.specs.declared.refusal.ListKind.TheVariants.{Packages, Sources}
 use Rattle.wb_states.specs.declared.refusal.ListingFault.TheVariants.{Control}
 use Rattle.wb_states.specs.declared.refusal.Refusal.{Refusal}
 use Rattle.wb_states.specs.declared.refusal.Refusal.TheVariants.{BadListing, BadName, RepeatedArch, Spent, UnknownArch}
@@ -34,7 +35,7 @@ use Rattle.wb_states.specs.Machine.{Machine, with_words}
 use Rattle.wb_states.specs.Names.{is_arch_name}
 use Rattle.wb_merge.specs.Listing.{ArchiveListing}
 use Rattle.wb_merge.specs.Merged.{Records}
-use Rattle.wb_merge.specs.Scratch.{kept_binaries, kept_sources, listing_kept}
+use Rattle.wb_merge.specs.Scratch.{binary_row_at, kept_binaries, kept_sources, listing_kept, source_row_at}
 use Rattle.wb_merge.proofs.ScratchLemmas.{listing_of-kept}
 use Rattle.wb_step.specs.Checks.{first_refusal, has_repeated_arch as repeats_part, text_checks, text_refusal, when}
 use Rattle.wb_step.specs.Parts.{end_with, is_good, is_merged, listing_for, part_listing, part_replies, parts_refusal, records_after, records_with}
@@ -44,10 +45,12 @@ use Rattle.wb_step.proofs.PassLemmas.{when-None}
 use Rattle.wb_step.proofs.StepLemmas.{step-refused, step-text}
 use Rattle.wb_archive.specs.declared.merge.PartList.{PartList}
 use Rattle.wb_archive.specs.declared.merge_from.ArchList.{ArchList}
+use Rattle.wb_archive.specs.declared.fault.BadList.{BadList}
 use Rattle.wb_archive.specs.Feeds.{IsFeedBreak}
-use Rattle.wb_archive.specs.Merges.{ArePartsDone, IsGiven, IsMergeOfLists, IsPartOf, IsPartUnread, IsUnread, MayBeginAt}
-use Rattle.wb_archive.specs.Readers.{ComesTo, IsAsStep, IsFeedOf, IsListOf, IsMergeOf, IsMergeOfTexts, IsReadAs, StandsForPart, archs_refusal, has_bad_arch, has_repeated_arch, merge_outcome, merged_office, outcome_by, refusal_by, refusal_in, unread_list}
-use Rattle.wb_archive.proofs.KnownListLemmas.{listing-alike}
+use Rattle.wb_archive.specs.Merges.{ArePartsDone, IsCutOff, IsGiven, IsMergeOfLists, IsPartOf, IsPartUnread, IsUnread, MayBeginAt}
+use Rattle.wb_archive.specs.Reads.{IsBrokenOff}
+use Rattle.wb_archive.specs.Readers.{IsAsStep, IsFeedOf, IsListOf, IsMergeOf, IsMergeOfTexts, IsReadAs, IsReadFault, StandsForPart, archs_refusal, has_repeated_arch, merge_outcome, merged_office, outcome_by, refusal_by, refusal_in, unread_list}
+use Rattle.wb_archive.proofs.KnownListLemmas.{given-alike}
 
 -- ---- the refusal of a merge by its replies
 
@@ -169,27 +172,31 @@ feed-bytes : (known : Option (List ℕ)) (feed : FeedState) (text : List ℕ) �
     → (bytes : List ℕ) × MayBeLeft known bytes × (begun (paragraphs_in (lines_of text)) ≡ begun (paragraphs_in (lines_of bytes)))
 feed-bytes known feed text is begins = subst (λ (f : FeedState). MayBeginAt MayStandAt f text) is begins
 
+-- a feed that broke could not be read on
+read-off : {X : Type 0} (feed : FeedState) (which : ListKind) (row_at : ℕ → List FieldText → Result X Refusal) (place : ReaderState) (bad : BadList)
+    → IsBrokenOff IsFeedBreak feed which row_at place bad → IsBrokenOff IsReadFault tt which row_at place bad
+read-off feed which row_at place bad broken = record {
+  broke = record { broke = broken.broke.broke; breaks = broken.broke.breaks.kind; is = broken.broke.is };
+  list = broken.list;
+  read = broken.read;
+}
+
 -- a listing that was given
-read-as : (listing given : Result ArchiveListing Refusal) → IsGiven IsFeedBreak listing given → IsReadAs listing given
-read-as listing given (inl same) = inl same
-read-as listing given (inr (reader, (bad, (broken, is)))) =
-    inr (
-      bad.which,
-      (
-        broken.broke.paragraph,
-        is
-            ∙ (λ i. Err (BadListing bad.which (broken.is i).paragraph (broken.is i).fault))
-            ∙ (λ i. Err (BadListing bad.which broken.broke.paragraph (Control (broken.breaks.kind i)))),
-      ),
-    )
+read-as : (machine : Machine) (text : List ℕ) (of : Part) (given : Result ArchiveListing Refusal) → IsGiven IsFeedBreak machine text of given → IsReadAs machine text of given
+read-as machine text of given (inl same) = inl same
+read-as machine text of given (inr (bad, (off, is))) = inr (bad, (record { words = off.words; known = off.known; reader = tt; cut = by off.cut }, is)) where
+  by : IsCutOff IsFeedBreak off.reader (with_words of.arch off.words) (begun (paragraphs_in (lines_of text))) (begun (paragraphs_in (lines_of of.packages))) bad
+      → IsCutOff IsReadFault tt (with_words of.arch off.words) (begun (paragraphs_in (lines_of text))) (begun (paragraphs_in (lines_of of.packages))) bad
+  by (inl broken) = inl (read-off off.reader Sources source_row_at (begun (paragraphs_in (lines_of text))) bad broken)
+  by (inr (whole, broken)) = inr (whole, read-off off.reader Packages (binary_row_at (with_words of.arch off.words)) (begun (paragraphs_in (lines_of of.packages))) bad broken)
 
 module _ {R : Type 0} (remaining : R → Option (List ℕ)) (machine : Machine) (text known : List ℕ)
     (alike : begun (paragraphs_in (lines_of text)) ≡ begun (paragraphs_in (lines_of known))) where
   -- what became of the parts, by the bytes of their readers
   feeds-parts : (lists : List (ArchList R)) (feeds : List (PartList FeedState)) (found : List Part) (records last : Records) (replies : List PartReply)
       → AllZip (IsFeedOf remaining machine) lists feeds → AllZip (IsPartOf (MayBeginAt MayStandAt) machine) feeds found
-      → ArePartsDone (λ of. IsGiven IsFeedBreak (part_listing machine text of)) found records replies last
-      → (parts : List Part) × (AllZip (IsListOf remaining) lists parts × ArePartsDone (λ of. IsReadAs (part_listing machine known of)) parts records replies last)
+      → ArePartsDone (IsGiven IsFeedBreak machine text) found records replies last
+      → (parts : List Part) × (AllZip (IsListOf remaining) lists parts × ArePartsDone (IsReadAs machine known) parts records replies last)
   feeds-parts [] [] [] records last [] are begin done = ([], (tt, done))
   feeds-parts [] [] [] records last (reply ∷ replies) are begin done = absurd done
   feeds-parts [] [] (of ∷ found) records last replies are begin done = absurd begin
@@ -201,16 +208,15 @@ module _ {R : Type 0} (remaining : R → Option (List ℕ)) (machine : Machine) 
       let bytes = feed-bytes (remaining list.packages) feed.packages of.packages are.0.packages begin.0.begins in
       let same : of.arch ≡ list.arch = sym begin.0.arch ∙ are.0.arch in
       let part : Part = record { arch = list.arch; packages = bytes.0 } in
-      let listing = listing-alike machine text known of part alike same bytes.2 in
       let rest = feeds-parts lists feeds found (records_with records list.arch done.0) last replies are.1 begin.1
-      (subst (λ (arch : List ℕ). ArePartsDone (λ of. IsGiven IsFeedBreak (part_listing machine text of)) found (records_with records arch done.0) replies last) same done.1.1.1) in (
+      (subst (λ (arch : List ℕ). ArePartsDone (IsGiven IsFeedBreak machine text) found (records_with records arch done.0) replies last) same done.1.1.1) in (
         part ∷ rest.0,
         (
           (record { arch = refl; packages = bytes.1 }, rest.1.0),
           (
             done.0,
             (
-              subst (λ (l : Result ArchiveListing Refusal). IsReadAs l done.0) listing (read-as (part_listing machine text of) done.0 done.1.0),
+              given-alike IsReadFault machine text known of part done.0 alike same bytes.2 (read-as machine text of done.0 done.1.0),
               (done.1.1.0 ∙ (λ i. record { arch = same i; end = end_with records (same i) done.0 }), rest.1.1),
             ),
           ),
@@ -312,7 +318,7 @@ module _ (machine : Machine) (text : List ℕ) where
     pub alike : AllZip AreAlike replies (part_replies machine text others records)
 
   stand-in : (parts : List Part) (records last : Records) (replies : List PartReply)
-      → ArePartsDone (λ of. IsReadAs (part_listing machine text of)) parts records replies last → StandIn parts records last replies
+      → ArePartsDone (IsReadAs machine text) parts records replies last → StandIn parts records last replies
   stand-in [] records last [] done = record { others = []; stand = tt; last_is = done; alike = tt }
   stand-in [] records last (reply ∷ replies) done = absurd done
   stand-in (part ∷ parts) records last [] done = absurd done
@@ -326,7 +332,7 @@ module _ (machine : Machine) (text : List ℕ) where
           subst (λ (l : Result ArchiveListing Refusal). AllZip AreAlike replies (part_replies machine text rest.others (records_with records part.arch l))) is rest.alike,
         );
       }
-  stand-in (part ∷ parts) records last (reply ∷ replies) (listing, (inr (which, (paragraph, is)), (told, later))) =
+  stand-in (part ∷ parts) records last (reply ∷ replies) (listing, (inr (bad_list, (off, is)), (told, later))) =
       let rest = stand-in parts (records_with records part.arch listing) last replies later in
       let bad = unread-refused machine text part.arch in
       let same : records_with records part.arch listing ≡ records_with records part.arch (part_listing machine text (record { arch = part.arch; packages = unread_list })) =
@@ -458,14 +464,34 @@ read-step text parts machine replies last names done =
 -- ---- an office that a merge leaves as it was
 
 module _ (machine : Machine) (text : List ℕ) where
-  -- parts of which no list could be read on
+  -- the refusal of a part of which Sources could not be read at all
+  abbrev unread-refusal : Option OsCpu → Refusal
+  unread-refusal None = UnknownArch
+  unread-refusal (Some words) = BadListing Sources 1 (Control Read)
+
+  part-unread : (of : Part) (words : Option OsCpu) → finite.get machine.archs of.arch ≡ words → IsReadAs machine text of (Err (unread-refusal words))
+  unfolding part_listing
+  part-unread of None none = inl (sym (ap (listing_for text of) none))
+  part-unread of (Some words) some =
+      let bad : BadList = record { which = Sources; paragraph = 1; fault = Control Read } in
+      let place : ReaderState = begun (paragraphs_in (lines_of text)) in
+      let broken : IsBrokenOff IsReadFault tt Sources source_row_at place bad = record {
+        broke = record { broke = record { paragraph = 1; kind = Read }; breaks = refl; is = refl };
+        list = refl;
+        read = record { rows = []; last = place; reads = refl; next = refl };
+      } in
+      inr (bad, (record { words = words; known = some; reader = tt; cut = inl broken }, refl))
+
+  -- parts of which Sources could not be read at all
   abbrev refused-parts : List Part → List PartReply
   refused-parts [] = []
-  refused-parts (part ∷ parts) = record { arch = part.arch; end = end.Refused (BadListing Packages 1 (Control Read)) } ∷ refused-parts parts
+  refused-parts (part ∷ parts) = record { arch = part.arch; end = end.Refused (unread-refusal (finite.get machine.archs part.arch)) } ∷ refused-parts parts
 
-  parts-refused : (parts : List Part) (records : Records) → ArePartsDone (λ of. IsReadAs (part_listing machine text of)) parts records (refused-parts parts) records
+  parts-refused : (parts : List Part) (records : Records) → ArePartsDone (IsReadAs machine text) parts records (refused-parts parts) records
   parts-refused [] records = refl
-  parts-refused (part ∷ parts) records = (Err (BadListing Packages 1 (Control Read)), (inr (Packages, (1, refl)), (refl, parts-refused parts records)))
+  parts-refused (part ∷ parts) records =
+      let words = finite.get machine.archs part.arch in
+      (Err (unread-refusal words), (part-unread part words refl, (refl, parts-refused parts records)))
 
   no-merged : (parts : List Part) → list_any (λ (r : PartReply). is_merged r.end) (refused-parts parts) ≡ false
   no-merged [] = refl
@@ -473,7 +499,9 @@ module _ (machine : Machine) (text : List ℕ) where
 
   refused-by : (parts : List Part) → (refusal : Refusal) × (refusal_by (refused-parts parts) ≡ Some refusal)
   refused-by [] = (UnknownArch, refl)
-  refused-by (part ∷ parts) = (BadListing Packages 1 (Control Read), ap (λ (b : Bool). cond b None (Some (BadListing Packages 1 (Control Read)))) (no-merged (part ∷ parts)))
+  refused-by (part ∷ parts) =
+      let refusal = unread-refusal (finite.get machine.archs part.arch) in
+      (refusal, ap (λ (b : Bool). cond b None (Some refusal)) (no-merged (part ∷ parts)))
 
   -- a merge of lists that could not be read on is refused, and leaves the office as it was
   pub texts-unread : (parts : List Part) → (refusal : Refusal) × IsMergeOfTexts text parts machine (Err refusal, machine)

@@ -1,5 +1,5 @@
 -- Why a merge stops, and why a list is refused.
-use Rattle.std.specs.Prelude.{◌≡◌, ◌⊎◌, Result, Err, ⊤}
+use Rattle.std.specs.Prelude.{◌≡◌, ⊤}
 use Rattle.deb_control.specs.declared.fault.ControlFault.{ControlFault}
 use Rattle.wb_states.specs.declared.refusal.Refusal.{Refusal}
 use Rattle.wb_states.specs.declared.refusal.Refusal.TheVariants.{BadListing}
@@ -24,10 +24,6 @@ pub record IsBreak {R : Type 0} (Breaks : R → ControlFault → Type 0) (reader
   pub broke : ControlFault
   pub breaks : Breaks reader broke
   pub is : bad ≡ control_bad bad.which broke
-
--- a list is refused: for its first fault, or since the reader broke
-abbrev pub IsRefused : {R X : Type 0} → (R → ControlFault → Type 0) → R → Result X Refusal → BadList → Type 0
-IsRefused Breaks reader kept bad = IsBreak Breaks reader bad ⊎ (kept ≡ Err (refusal_of bad))
 
 -- what is so of the fault of a list that was read
 abbrev pub IfBad : ReadFault → (BadList → Type 0) → Type 0

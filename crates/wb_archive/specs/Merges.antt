@@ -1,5 +1,5 @@
 -- A whole merge: which parts its readers have, and what became of each.
-use Rattle.std.specs.Prelude.{◌≡◌, ◌⊎◌, ℕ, List, [], ◌∷◌, ◌++◌, Option, None, Some, Result, Err}
+use Rattle.std.specs.Prelude.{◌≡◌, ◌⊎◌, ℕ, List, [], ◌∷◌, ◌++◌, Option, None, Some, Result, Err, IsOk}
 use Rattle.std.specs.FinMap as finite
 use Rattle.std.specs.List.{AllZip}
 use Rattle.deb_control.specs.declared.fault.ControlFault.{ControlFault}
@@ -8,17 +8,20 @@ use Rattle.deb_control.specs.Paragraphs.{ReaderState, begun}
 use Rattle.deb_relations.specs.declared.arch.ArchWords.{ArchWords}
 use Rattle.wb_states.specs.declared.arch.OsCpu.{OsCpu}
 use Rattle.wb_states.specs.declared.command.Part.{Part}
+use Rattle.wb_states.specs.declared.refusal.ListKind.TheVariants.{Packages, Sources}
 use Rattle.wb_states.specs.declared.refusal.Refusal.{Refusal}
 use Rattle.wb_states.specs.declared.reply.PartEnd.{PartEnd}
 use Rattle.wb_states.specs.declared.reply.PartReply.{PartReply}
 use Rattle.wb_states.specs.Machine.{Machine, with_words}
 use Rattle.wb_merge.specs.Listing.{ArchiveListing}
 use Rattle.wb_merge.specs.Merged.{Records}
+use Rattle.wb_merge.specs.Scratch.{binary_row_at, source_row_at}
 use Rattle.wb_step.specs.Parts.{end_with, part_listing, records_with}
 use Rattle.wb_archive.specs.declared.fault.BadList.{BadList}
 use Rattle.wb_archive.specs.declared.merge.PartList.{PartList}
-use Rattle.wb_archive.specs.Faults.{IsBreak, refusal_of}
+use Rattle.wb_archive.specs.Faults.{refusal_of}
 use Rattle.wb_archive.specs.Parts.{IsPartDone}
+use Rattle.wb_archive.specs.Reads.{IsBrokenOff, sources_at}
 
 -- ---- the lists that readers have
 
@@ -58,10 +61,25 @@ archs_of (part ∷ parts) = arch_of part.arch part.words ++ archs_of parts
 
 -- ---- what became of them
 
+-- the fault of the lists of an architecture's part is that a reader broke: that of Sources, or that of Packages after a Sources without a fault
+abbrev pub IsCutOff : {R : Type 0} → (R → ControlFault → Type 0) → R → ArchWords → ReaderState → ReaderState → BadList → Type 0
+IsCutOff Breaks reader arch sources packages bad =
+    IsBrokenOff Breaks reader Sources source_row_at sources bad
+    ⊎ (IsOk (sources_at sources) × IsBrokenOff Breaks reader Packages (binary_row_at arch) packages bad)
+
+-- the same of a part whose architecture was added to this office
+pub record IsPartCutOff {R : Type 0} (Breaks : R → ControlFault → Type 0) (machine : Machine) (arch : List ℕ) (sources packages : ReaderState) (bad : BadList) : Type 0 where
+  pub words : OsCpu
+  pub known : finite.get machine.archs arch ≡ Some words
+  pub reader : R
+  pub cut : IsCutOff Breaks reader (with_words arch words) sources packages bad
+
 -- a part was given this listing: the one that its lists have, or a refusal since the reader of a list broke
-abbrev pub IsGiven : {R : Type 0} → (R → ControlFault → Type 0) → Result ArchiveListing Refusal → Result ArchiveListing Refusal → Type 0
-IsGiven {R} Breaks listing given =
-    (given ≡ listing) ⊎ ((reader : R) × ((bad : BadList) × (IsBreak Breaks reader bad × (given ≡ Err (refusal_of bad)))))
+abbrev pub IsGiven : {R : Type 0} → (R → ControlFault → Type 0) → Machine → List ℕ → Part → Result ArchiveListing Refusal → Type 0
+IsGiven Breaks machine text of given =
+    (given ≡ part_listing machine text of)
+    ⊎ ((bad : BadList) × (IsPartCutOff Breaks machine of.arch (begun (paragraphs_in (lines_of text))) (begun (paragraphs_in (lines_of of.packages))) bad
+    × (given ≡ Err (refusal_of bad))))
 
 -- the parts were merged or refused in their order, each by the listing that it was given, from the first records to the last
 abbrev pub ArePartsDone : (Part → Result ArchiveListing Refusal → Type 0) → List Part → Records → List PartReply → Records → Type 0
@@ -98,4 +116,4 @@ pub record IsMergeOfLists {R : Type 0} (MayStand : R → ReaderState → Type 0)
     (sources : R) (parts : List (PartList R)) (records : Records) (replies : List PartReply) : Type 0 where
   pub text : List ℕ
   pub begins : MayBeginAt MayStand sources text
-  pub merged : IsMergeOfParts MayStand machine (λ of. IsGiven Breaks (part_listing machine text of)) Holds parts records replies
+  pub merged : IsMergeOfParts MayStand machine (IsGiven Breaks machine text) Holds parts records replies

@@ -4,6 +4,7 @@ use Rattle.std.specs.Result.{result_map_both}
 use Rattle.deb_control.specs.declared.fault.ControlFault.{ControlFault}
 use Rattle.deb_control.specs.Paragraphs.{ReaderState}
 use Rattle.deb_relations.specs.declared.arch.ArchWords.{ArchWords}
+use Rattle.wb_states.specs.declared.refusal.ListKind.TheVariants.{Packages}
 use Rattle.wb_states.specs.declared.refusal.Refusal.{Refusal}
 use Rattle.wb_states.specs.declared.refusal.Refusal.TheVariants.{BadListing, UnknownArch}
 use Rattle.wb_states.specs.declared.reply.PartEnd.{PartEnd}
@@ -12,11 +13,11 @@ use Rattle.wb_states.specs.declared.scratch.BinaryRow.{BinaryRow}
 use Rattle.wb_states.specs.declared.scratch.SourceRow.{SourceRow}
 use Rattle.wb_merge.specs.Listing.{ArchiveListing}
 use Rattle.wb_merge.specs.Merged.{Records}
-use Rattle.wb_merge.specs.Scratch.{listing_kept, present}
+use Rattle.wb_merge.specs.Scratch.{binary_row_at, listing_kept, present}
 use Rattle.wb_step.specs.Parts.{end_with, records_with}
 use Rattle.wb_archive.specs.declared.fault.BadList.{BadList}
-use Rattle.wb_archive.specs.Faults.{IsBreak, refusal_of}
-use Rattle.wb_archive.specs.Reads.{packages_at}
+use Rattle.wb_archive.specs.Faults.{refusal_of}
+use Rattle.wb_archive.specs.Reads.{IsBrokenOff, packages_at}
 
 -- what is kept of a Packages list of which a reader has the paragraphs ahead
 abbrev pub binaries_at : ArchWords → ReaderState → Result (List BinaryRow) Refusal
@@ -26,10 +27,11 @@ binaries_at arch place = result_map_both present (λ refusal. refusal) (packages
 abbrev pub listing_from : ArchWords → List SourceRow → ReaderState → Result ArchiveListing Refusal
 listing_from arch sources place = listing_kept arch (Ok sources) (binaries_at arch place)
 
--- a list gave this listing: the one that it has, or a refusal since its reader broke
-abbrev pub IsListing : {R : Type 0} → (R → ControlFault → Type 0) → R → Result ArchiveListing Refusal → Result ArchiveListing Refusal → Type 0
-IsListing Breaks reader listing given =
-    (given ≡ listing) ⊎ ((bad : BadList) × (IsBreak Breaks reader bad × (given ≡ Err (refusal_of bad))))
+-- a part's Packages gave this listing, with these rows of Sources: the one that they have, or a refusal since its reader broke
+abbrev pub IsListing : {R : Type 0} → (R → ControlFault → Type 0) → R → ArchWords → List SourceRow → ReaderState → Result ArchiveListing Refusal → Type 0
+IsListing Breaks reader arch sources place given =
+    (given ≡ listing_from arch sources place)
+    ⊎ ((bad : BadList) × (IsBrokenOff Breaks reader Packages (binary_row_at arch) place bad × (given ≡ Err (refusal_of bad))))
 
 -- a part was merged or refused by the listing that its list gave, and the tables have the records after it
 pub record IsPartDone (Gives : Result ArchiveListing Refusal → Type 0) (Holds : Records → Type 0) (records : Records) (arch : List ℕ) (end : PartEnd) : Type 0 where

@@ -1,17 +1,15 @@
 -- A merge of lists that readers give: what it answers, and what it makes of the office.
-use Rattle.std.specs.Prelude.{◌≡◌, ◌⊎◌, ℕ, ◌+◌, Bool, true, false, not, ◌||◌, nat_le, List, [], ◌∷◌, bytes_eq, codes, Option, None, Some, if◌then◌else◌, Result, Ok, Err, IsOk}
+use Rattle.std.specs.Prelude.{◌≡◌, ◌⊎◌, ⊤, ℕ, ◌+◌, Bool, true, false, not, ◌||◌, nat_le, List, [], ◌∷◌, bytes_eq, codes, Option, None, Some, if◌then◌else◌, Result, Ok, Err, IsOk}
 use Rattle.std.specs.FinMap as finite
 use Rattle.std.specs.List.{AllZip, list_any}
 use Rattle.deb_control.specs.FeedState.{FeedState, fresh}
 use Rattle.deb_control.specs.Source.{MayBeLeft}
+use Rattle.deb_control.specs.declared.fault.ControlFault.{ControlFault}
 use Rattle.deb_control.specs.declared.fault.ControlFaultKind.TheVariants.{Read}
 use Rattle.deb_text.specs.Options.{first_some}
-use Rattle.wb_states.specs.declared.command.Command.{Command}
 use Rattle.wb_states.specs.declared.command.Part.{Part}
-use Rattle.wb_states.specs.declared.refusal.ListKind.{ListKind}
-use Rattle.wb_states.specs.declared.refusal.ListingFault.TheVariants.{Control}
 use Rattle.wb_states.specs.declared.refusal.Refusal.{Refusal}
-use Rattle.wb_states.specs.declared.refusal.Refusal.TheVariants.{BadListing, BadName, RepeatedArch, Spent, UnknownArch}
+use Rattle.wb_states.specs.declared.refusal.Refusal.TheVariants.{BadName, RepeatedArch, Spent, UnknownArch}
 use Rattle.wb_states.specs.declared.reply.PartEnd.{PartEnd}
 use Rattle.wb_states.specs.declared.reply.PartEnd.TheVariants as end
 use Rattle.wb_states.specs.declared.reply.PartReply.{PartReply}
@@ -24,11 +22,11 @@ use Rattle.wb_states.specs.Names.{is_arch_name}
 use Rattle.wb_merge.specs.Listing.{ArchiveListing}
 use Rattle.wb_merge.specs.Merged.{Records}
 use Rattle.wb_step.specs.Checks.{text_refusal, when}
-use Rattle.wb_step.specs.Parts.{is_merged, part_listing}
+use Rattle.wb_step.specs.Parts.{is_merged}
 use Rattle.wb_step.specs.Step.{Outcome, step}
 use Rattle.wb_archive.specs.declared.merge.PartList.{PartList}
 use Rattle.wb_archive.specs.declared.merge_from.ArchList.{ArchList}
-use Rattle.wb_archive.specs.Merges.{ArePartsDone}
+use Rattle.wb_archive.specs.Merges.{ArePartsDone, IsGiven}
 
 -- ---- the names of the architectures
 
@@ -71,15 +69,19 @@ outcome_by None false machine replies last = (Ok (Merged (machine.accepted + 1) 
 abbrev pub merge_outcome : Machine → List PartReply → Records → Outcome
 merge_outcome machine replies last = outcome_by (refusal_by replies) (nat_le count_limit machine.accepted) machine replies last
 
--- a part was given this listing: the one that its lists have, or a refusal since a list could not be read on
-abbrev pub IsReadAs : Result ArchiveListing Refusal → Result ArchiveListing Refusal → Type 0
-IsReadAs listing given = (given ≡ listing) ⊎ ((which : ListKind) × ((paragraph : ℕ) × (given ≡ Err (BadListing which paragraph (Control Read)))))
+-- a list could not be read on: whatever its reader is, this is its fault
+abbrev pub IsReadFault : ⊤ → ControlFault → Type 0
+IsReadFault reader fault = fault.kind ≡ Read
+
+-- a part was given this listing: the one that its lists have, or the refusal that a list could not be read on, none of whose paragraphs before that has a fault
+abbrev pub IsReadAs : Machine → List ℕ → Part → Result ArchiveListing Refusal → Type 0
+IsReadAs machine text of given = IsGiven IsReadFault machine text of given
 
 -- a merge of lists with these texts, which were read, came to this: each part was merged or refused in its order
 pub record ComesTo (text : List ℕ) (parts : List Part) (machine : Machine) (outcome : Outcome) : Type 0 where
   pub replies : List PartReply
   pub last : Records
-  pub done : ArePartsDone (λ of. IsReadAs (part_listing machine text of)) parts machine.records replies last
+  pub done : ArePartsDone (IsReadAs machine text) parts machine.records replies last
   pub is : outcome ≡ merge_outcome machine replies last
 
 -- a merge of lists with these texts is answered so, and leaves the office so: its names are refused, or its lists are read

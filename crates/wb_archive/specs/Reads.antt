@@ -1,5 +1,6 @@
 -- What is kept of the paragraphs that a reader has ahead.
-use Rattle.std.specs.Prelude.{◌≡◌, ℕ, List, Option, None, Some, Result, Ok, Err}
+use Rattle.std.specs.Prelude.{◌≡◌, ◌⊎◌, ℕ, ◌+◌, List, [], ◌∷◌, Option, None, Some, Result, Ok, Err}
+use Rattle.deb_control.specs.declared.fault.ControlFault.{ControlFault}
 use Rattle.deb_control.specs.declared.fault.ControlFaultKind.TheVariants.{Ended}
 use Rattle.deb_control.specs.Fields.{FieldText}
 use Rattle.deb_control.specs.Paragraphs.{Answer, ReaderState, step}
@@ -11,8 +12,9 @@ use Rattle.wb_states.specs.declared.refusal.ListKind.TheVariants.{Sources, Packa
 use Rattle.wb_states.specs.declared.refusal.ListingFault.TheVariants.{Control}
 use Rattle.wb_states.specs.declared.scratch.SourceRow.{SourceRow}
 use Rattle.wb_states.specs.declared.scratch.BinaryRow.{BinaryRow}
-use Rattle.wb_merge.specs.Rows.{onto_rows}
 use Rattle.wb_merge.specs.Scratch.{binary_row_at, kept_behind, source_row_at}
+use Rattle.wb_archive.specs.declared.fault.BadList.{BadList}
+use Rattle.wb_archive.specs.Faults.{IsBreak, refusal_of}
 
 -- ---- where a reader may stand
 
@@ -44,8 +46,36 @@ sources_at place = kept_at Sources source_row_at place
 abbrev pub packages_at : ArchWords → ReaderState → Result (List (Option BinaryRow)) Refusal
 packages_at arch place = kept_at Packages (binary_row_at arch) place
 
+-- ---- paragraph by paragraph
+
+-- from one place to another paragraphs were read of which these are kept, each without a fault
+abbrev pub ReadsTo : {X : Type 0} → (ℕ → List FieldText → Result X Refusal) → List X → ReaderState → ReaderState → Type 0
+ReadsTo row_at [] place after = after ≡ place
+ReadsTo row_at (row ∷ rows) place after =
+    (fields : List FieldText) × ((next : ReaderState) × ((step place ≡ (Ok (Some fields), next))
+    × ((row_at (place.passed + 1) fields ≡ Ok row) × ReadsTo row_at rows next after)))
+
 -- a call of a reader gave a paragraph of which this is kept: wherever the reader may stand after it, it may have stood before that paragraph
-abbrev pub GivesRow : {R X : Type 0} → (R → ReaderState → Type 0) → ListKind → (ℕ → List FieldText → Result X Refusal) → R → X → R → Type 0
-GivesRow MayStand which row_at old row new =
-    (after : ReaderState) → MayStand new after
-    → MayStandWhere MayStand old (λ before. kept_at which row_at before ≡ onto_rows (Ok row) (kept_at which row_at after))
+abbrev pub GivesRow : {R X : Type 0} → (R → ReaderState → Type 0) → (ℕ → List FieldText → Result X Refusal) → R → X → R → Type 0
+GivesRow MayStand row_at old row new =
+    (after : ReaderState) → MayStand new after → MayStandWhere MayStand old (λ before. ReadsTo row_at (row ∷ []) before after)
+
+-- ---- a list that is refused
+
+-- the paragraphs from a place on were read up to the one of this number, each without a fault
+pub record IsReadUpTo {X : Type 0} (row_at : ℕ → List FieldText → Result X Refusal) (place : ReaderState) (number : ℕ) : Type 0 where
+  pub rows : List X
+  pub last : ReaderState
+  pub reads : ReadsTo row_at rows place last
+  pub next : number ≡ last.passed + 1
+
+-- the fault of this list is that its reader broke, and the paragraphs before that were read, each without a fault
+pub record IsBrokenOff {R X : Type 0} (Breaks : R → ControlFault → Type 0) (reader : R) (which : ListKind) (row_at : ℕ → List FieldText → Result X Refusal) (place : ReaderState)
+    (bad : BadList) : Type 0 where
+  pub broke : IsBreak Breaks reader bad
+  pub list : bad.which ≡ which
+  pub read : IsReadUpTo row_at place bad.paragraph
+
+-- this list is refused: for its first fault, or since its reader broke before one was read
+abbrev pub IsRefused : {R X : Type 0} → (R → ControlFault → Type 0) → R → ListKind → (ℕ → List FieldText → Result X Refusal) → ReaderState → BadList → Type 0
+IsRefused Breaks reader which row_at place bad = IsBrokenOff Breaks reader which row_at place bad ⊎ (kept_at which row_at place ≡ Err (refusal_of bad))

@@ -2,9 +2,11 @@
 ghost use Rattle.std.specs.Prelude.{◌≡◌, ◌++◌, ◌∷◌, ◌<◌, ◌^◌, [], IfOk, IfErr, IfSome, OnOk};
 ghost use Rattle.std.specs.BTreeSet.{contains};
 ghost use Rattle.deb_text.specs.Text.{text_cmp};
-ghost use Rattle.wb_archive.specs.Faults.{IsRefused, StopsAs};
+ghost use Rattle.wb_states.specs.declared.refusal.ListKind.TheVariants.{Packages, Sources};
+ghost use Rattle.wb_merge.specs.Scratch.{binary_row_at, source_row_at};
+ghost use Rattle.wb_archive.specs.Faults.{StopsAs};
 ghost use Rattle.wb_archive.specs.Fills.{IsFilled, binaries_wanted, is_binary_wanted, is_source_wanted, sources_wanted};
-ghost use Rattle.wb_archive.specs.Reads.{MayStandWhere, packages_at, sources_at};
+ghost use Rattle.wb_archive.specs.Reads.{IsRefused, MayStandWhere, packages_at, sources_at};
 ghost use Rattle.wb_archive.specs.Tables.{Tables, IsAfterBinaries, IsAfterSources, with_binaries, with_sources};
 
 use crate::fault::{BadList, MergeFault, ReadFault, asked};
@@ -88,7 +90,7 @@ pub fn fill_sources<T: MergeTables, R: ReadParagraphs>(
         → R.passed list.old ≡ 0 → at.now.sources ≡ []
         → IfOk result (λ bad. MayStandWhere R.may_stand_at list.old (λ place. IsFilled (sources_at place)
         (sources_wanted archs.now) (λ rows. T.holds tables.new (with_sources rows at))
-        (IsRefused R.breaks list.new (sources_at place)) bad)) }
+        (IsRefused R.breaks list.new Sources source_row_at place) bad)) }
     ensures follows { OnOk result (T.follows tables.old tables.new) }
     ensures stops { IfErr result (StopsAs T.follows T.fails tables.old tables.new) }
 {
@@ -119,7 +121,7 @@ pub fn fill_binaries<T: MergeTables, R: ReadParagraphs>(
         → R.passed list.old ≡ 0 → at.now.binaries ≡ []
         → IfOk result (λ bad. MayStandWhere R.may_stand_at list.old (λ place. IsFilled (packages_at arch.now place)
         (binaries_wanted (contains text_cmp waited.now)) (λ rows. T.holds tables.new (with_binaries rows at))
-        (IsRefused R.breaks list.new (packages_at arch.now place)) bad)) }
+        (IsRefused R.breaks list.new Packages (binary_row_at arch.now) place) bad)) }
     ensures follows { OnOk result (T.follows tables.old tables.new) }
     ensures stops { IfErr result (StopsAs T.follows T.fails tables.old tables.new) }
 {

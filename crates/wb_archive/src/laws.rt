@@ -26,7 +26,7 @@ use deb_control::Paragraphs;
 pub fn merges_are_those_of_the_lists<R: ReadParagraphs>()
     ensures value { ((reader : R) (fault : ControlFault) → R.breaks reader fault → ⊥)
         → (machine : Machine) (text : List ℕ) (given : List Part) (records last : Records) (replies : List PartReply)
-        → ArePartsDone (λ of. IsGiven R.breaks (part_listing machine text of)) given records replies last
+        → ArePartsDone (IsGiven R.breaks machine text) given records replies last
         → (replies ≡ part_replies machine text given records) × (last ≡ records_after machine text given records) }
 {}
 
@@ -40,7 +40,7 @@ pub fn merges_of_known_lists_are_those_of_their_texts<R: ReadParagraphs>()
         (records last : Records) (replies : List PartReply)
         → BeginsAt R.may_stand_at sources text → AllZip (IsPartOf (BeginsAt R.may_stand_at) machine) parts given
         → IsMergeOfLists R.may_stand_at R.breaks machine (λ end. end ≡ last) sources parts records replies
-        → IsMergeDone (λ of. IsGiven R.breaks (part_listing machine text of)) (λ end. end ≡ last) given records replies }
+        → IsMergeDone (IsGiven R.breaks machine text) (λ end. end ≡ last) given records replies }
 {}
 
 /// A reader of a text in memory begins at that text, and may begin at no other; and it never breaks.

@@ -3,7 +3,6 @@ ghost use Rattle.std.specs.Prelude.{◌≡◌, ◌++◌, ℕ, List, [], ◌∷�
 ghost use Rattle.std.specs.List.{AllByRecursion};
 ghost use Rattle.deb_relations.specs.declared.arch.ArchWords.{ArchWords};
 ghost use Rattle.wb_states.specs.Machine.{Machine};
-ghost use Rattle.wb_step.specs.Parts.{part_listing};
 ghost use Rattle.wb_states.specs.declared.reply.PartEnd.TheVariants.{Refused};
 ghost use Rattle.wb_archive.specs.Faults.{StopsAs, refusal_of};
 ghost use Rattle.wb_archive.specs.Merges.{IsGiven, IsMergeOfLists, IsMergeOfParts, IsPartMerged, IsPartUnread, IsUnread, arch_of, archs_of};
@@ -84,7 +83,7 @@ fn merge_known<T: MergeTables, R: ReadParagraphs>(
         → T.is_clean tables.new → T.holds tables.old at → at.saved ≡ None → at.now.binaries ≡ []
         → IsPartUnread R.may_stand_at machine (record { arch = name.now; words = words.now; packages = packages.old })
         → HasSources R.breaks text archs at.now.sources bad → AreKnown archs name.now words.now
-        → IfOk result (IsPartMerged R.may_stand_at machine (λ of. IsGiven R.breaks (part_listing machine text of))
+        → IfOk result (IsPartMerged R.may_stand_at machine (IsGiven R.breaks machine text)
         (λ records. T.holds tables.new (with_records records at))
         (record { arch = name.now; words = words.now; packages = packages.old }) at.now.machine.records) }
     ensures kind { IfOk result IsPartEnd }
@@ -116,7 +115,7 @@ fn reply_to<T: MergeTables, R: ReadParagraphs>(
         → IsPartUnread R.may_stand_at machine part → HasSources R.breaks text archs at.now.sources bad
         → AreKnown archs part.arch part.words
         → IfOk result (λ reply. (reply.arch ≡ part.arch) × IsPartMerged R.may_stand_at machine
-        (λ of. IsGiven R.breaks (part_listing machine text of)) (λ records. T.holds tables.new (with_records records at))
+        (IsGiven R.breaks machine text) (λ records. T.holds tables.new (with_records records at))
         part at.now.machine.records reply.end) }
     ensures kind { IfOk result (λ reply. IsPartEnd reply.end) }
     ensures follows { OnOk result (T.follows tables.old tables.new) }
@@ -151,7 +150,7 @@ fn merge_parts<T: MergeTables, R: ReadParagraphs>(
         → AllByRecursion (IsPartUnread R.may_stand_at machine) parts.items
         → HasSources R.breaks text archs at.now.sources bad → AreAllKnown archs parts.items
         → IfOk result (λ replies. IsMergeOfParts R.may_stand_at machine
-        (λ of. IsGiven R.breaks (part_listing machine text of)) (λ records. T.holds tables.new (with_records records at))
+        (IsGiven R.breaks machine text) (λ records. T.holds tables.new (with_records records at))
         parts.items at.now.machine.records replies.items) }
     ensures kinds { IfOk result (λ replies. AllByRecursion (λ reply. IsPartEnd reply.end) replies.items) }
     ensures follows { OnOk result (T.follows tables.old tables.new) }

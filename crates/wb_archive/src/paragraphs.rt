@@ -1,5 +1,5 @@
 //! What a merge asks of a reader of paragraphs.
-ghost use Rattle.std.specs.Prelude.{◌≡◌, ◌≢◌, ◌⊎◌, ℕ, ◌<◌, IsTrue, IfOk, IfErr, IfSome, Ok, Err, length, option_map, refl};
+ghost use Rattle.std.specs.Prelude.{◌≡◌, ◌≢◌, ◌⊎◌, ℕ, ◌+◌, ◌<◌, IsTrue, IfOk, IfErr, IfSome, Ok, Err, length, option_map, refl};
 ghost use Rattle.std.proofs.Common.{sym};
 ghost use Rattle.deb_control.specs.declared.fault.ControlFault.{ControlFault};
 ghost use Rattle.deb_control.specs.declared.fault.ControlFaultKind.TheVariants.{Memory};
@@ -37,7 +37,8 @@ pub trait ReadParagraphs: Drop {
         ensures ok { IfOk result (λ found.
             AnswersFrom may_stand_at self.old self.new (Ok (option_map Self.Found.fields found))) }
         ensures refused { IfErr result (λ fault. fault.kind ≢ Memory
-            → breaks self.new fault ⊎ MayStandWhere may_stand_at self.old (λ place. (step place).0 ≡ Err fault)) }
+            → (breaks self.new fault × (fault.paragraph ≡ passed self.old + 1))
+            ⊎ MayStandWhere may_stand_at self.old (λ place. (step place).0 ≡ Err fault)) }
         ensures memory { IfErr result (λ fault. fault.kind ≡ Memory → may_want_memory self.old) };
 
     // A reader may stand somewhere.

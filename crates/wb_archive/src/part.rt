@@ -8,7 +8,7 @@ ghost use Rattle.wb_merge.specs.Merged.{merge_counts, merged};
 ghost use Rattle.wb_archive.specs.Decides.{listing_at};
 ghost use Rattle.wb_archive.specs.Faults.{StopsAs, refusal_of};
 ghost use Rattle.wb_archive.specs.Fills.{sources_wanted};
-ghost use Rattle.wb_archive.specs.Parts.{IsListing, IsPartDone, IsPartEnd, listing_from};
+ghost use Rattle.wb_archive.specs.Parts.{IsListing, IsPartDone, IsPartEnd};
 ghost use Rattle.wb_archive.specs.Reads.{MayStandWhere};
 ghost use Rattle.wb_archive.specs.Tables.{Contents, Tables, back_at, with_binaries, with_records, with_savepoint, without_savepoint};
 
@@ -112,7 +112,7 @@ pub fn merge_part<T: MergeTables, R: ReadParagraphs>(
         → T.is_clean tables.new → T.holds tables.old at → R.passed packages.old ≡ 0
         → at.saved ≡ None → at.now.binaries ≡ [] → at.now.sources ≡ sources_wanted archs rows → IsIn arch.now archs
         → IfOk result (λ end. MayStandWhere R.may_stand_at packages.old (λ place.
-        IsPartDone (IsListing R.breaks packages.new (listing_from arch.now rows place))
+        IsPartDone (IsListing R.breaks packages.new arch.now rows place)
         (λ records. T.holds tables.new (with_records records at)) at.now.machine.records arch.now.name end)) }
     ensures kind { IfOk result IsPartEnd }
     ensures follows { OnOk result (T.follows tables.old tables.new) }

@@ -3,8 +3,8 @@ ghost use Rattle.std.specs.Prelude.{◌≡◌, ◌≢◌, ◌+◌, ◌-◌, ◌^
 ghost use Rattle.deb_control.specs.declared.fault.ControlFaultKind.TheVariants.{Memory as NoMemory};
 ghost use Rattle.wb_states.specs.declared.refusal.ListKind.TheVariants.{Sources, Packages};
 ghost use Rattle.wb_merge.specs.Scratch.{binary_row_at, source_row_at};
-ghost use Rattle.wb_archive.specs.Faults.{IfBad, IsRefused, control_bad};
-ghost use Rattle.wb_archive.specs.Reads.{GivesRow, MayStandWhere, packages_at, sources_at};
+ghost use Rattle.wb_archive.specs.Faults.{IfBad, control_bad};
+ghost use Rattle.wb_archive.specs.Reads.{GivesRow, IsRefused, MayStandWhere, packages_at, sources_at};
 ghost use Rattle.wb_archive.specs.declared.fault.ReadFault.TheVariants.{Bad};
 
 use crate::ReadParagraphs;
@@ -38,13 +38,13 @@ pub(crate) fn next_source<R: ReadParagraphs>(
 ) -> Result<Option<SourceRow>, ReadFault>
     requires room { passed < 2 ^ 64 - 1 }
     ensures value { passed ≡ R.passed list.old → IfOk result (λ found. IfSome found (λ row.
-        GivesRow R.may_stand_at Sources source_row_at list.old row list.new)) }
+        GivesRow R.may_stand_at source_row_at list.old row list.new)) }
     ensures counts { IfOk result (λ found. IfSome found (λ row. R.passed list.new ≡ R.passed list.old + 1)) }
     ensures number { IfOk result (λ found. IfSome found (λ row. row.seq ≡ passed + 1)) }
     ensures ended { IfOk result (λ found. found ≡ None
         → MayStandWhere R.may_stand_at list.old (λ place. sources_at place ≡ Ok [])) }
     ensures refused { passed ≡ R.passed list.old → IfErr result (λ fault. IfBad fault (λ bad.
-        MayStandWhere R.may_stand_at list.old (λ place. IsRefused R.breaks list.new (sources_at place) bad))) }
+        MayStandWhere R.may_stand_at list.old (λ place. IsRefused R.breaks list.new Sources source_row_at place bad))) }
 {
     match list.next(alloc) {
         Ok(None) => Ok(None),
@@ -65,13 +65,14 @@ pub(crate) fn next_binary<R: ReadParagraphs>(
 ) -> Result<Option<Option<BinaryRow>>, ReadFault>
     requires room { passed < 2 ^ 64 - 1 }
     ensures value { passed ≡ R.passed list.old → IfOk result (λ found. IfSome found (λ row.
-        GivesRow R.may_stand_at Packages (binary_row_at arch.now) list.old row list.new)) }
+        GivesRow R.may_stand_at (binary_row_at arch.now) list.old row list.new)) }
     ensures counts { IfOk result (λ found. IfSome found (λ row. R.passed list.new ≡ R.passed list.old + 1)) }
     ensures number { IfOk result (λ found. IfSome found (λ row. IfSome row (λ row. row.seq ≡ passed + 1))) }
     ensures ended { IfOk result (λ found. found ≡ None
         → MayStandWhere R.may_stand_at list.old (λ place. packages_at arch.now place ≡ Ok [])) }
     ensures refused { passed ≡ R.passed list.old → IfErr result (λ fault. IfBad fault (λ bad.
-        MayStandWhere R.may_stand_at list.old (λ place. IsRefused R.breaks list.new (packages_at arch.now place) bad))) }
+        MayStandWhere R.may_stand_at list.old
+        (λ place. IsRefused R.breaks list.new Packages (binary_row_at arch.now) place bad))) }
 {
     match list.next(alloc) {
         Ok(None) => Ok(None),

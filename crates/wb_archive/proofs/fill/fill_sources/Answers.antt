@@ -12,14 +12,14 @@ use Rattle.wb_archive.proofs.fill.fill_sources.Goals as goal
 pub returns-in-Ok-None-clause-value : goal.returns-in-Ok-None-clause-value
 returns-in-Ok-None-clause-value g c = λ at clean holds first empty.
     let counted = g.R.ReadParagraphs.passed c.loop-passed.list in
-    half-ended g.R.ReadParagraphs.may_stand_at Sources source_row_at (sources_wanted c.args.archs.now) (λ (row : SourceRow). row.seq)
+    half-ended g.R.ReadParagraphs.may_stand_at source_row_at (sources_wanted c.args.archs.now) (λ (row : SourceRow). row.seq) Sources
     c.args.list.now c.loop-passed.list counted c.loop-passed.passed (c.loop-passed.invariant.half at clean holds first empty) (c.in-Ok-None.ensures.ended c.in-Ok-None.field-0-is)
 
 pub returns-in-Err-Bad-clause-value : goal.returns-in-Err-Bad-clause-value
 returns-in-Err-Bad-clause-value g c = λ at clean holds first empty.
     let half = c.loop-passed.invariant.half at clean holds first empty in
     let counted = g.R.ReadParagraphs.passed c.loop-passed.list in
-    rw c.in-Err-Bad.field-0-is (half-refused g.R.ReadParagraphs.may_stand_at Sources source_row_at (sources_wanted c.args.archs.now) (λ (row : SourceRow). row.seq)
+    rw c.in-Err-Bad.field-0-is (half-refused g.R.ReadParagraphs.may_stand_at source_row_at (sources_wanted c.args.archs.now) (λ (row : SourceRow). row.seq) Sources
     g.R.ReadParagraphs.breaks c.args.list.now c.loop-passed.list c.next_source.new.list counted c.loop-passed.passed c.in-Err-Bad.bad half
     (rw c.in-Err-Bad.field-0-is at (c.in-Err-Bad.ensures.refused half.count)))
 
@@ -27,7 +27,7 @@ pub loop-passed-init : goal.loop-passed-init
 loop-passed-init g c = record {
   follows = g.met.T.MergeTables.follows_itself c.args.tables.now;
   half = λ at clean holds first empty.
-      half-start g.R.ReadParagraphs.may_stand_at Sources source_row_at (sources_wanted c.args.archs.now) (λ (row : SourceRow). row.seq)
+      half-start g.R.ReadParagraphs.may_stand_at source_row_at (sources_wanted c.args.archs.now) (λ (row : SourceRow). row.seq)
       (λ rows. g.T.MergeTables.holds c.args.tables.now (with_sources rows at)) c.args.list.now (g.R.ReadParagraphs.passed c.args.list.now) first refl
       (subst (λ rows. g.T.MergeTables.holds c.args.tables.now (with_sources rows at)) empty holds);
 }
@@ -43,7 +43,7 @@ loop-passed-preserved g c =
       half = λ at clean holds first empty.
           let half = c.loop-passed.invariant.half at (laws.clean c.loop-passed.tables c.keep_source.new.tables kept.follows clean) holds first empty in
           let number = rw c.in-Ok-Some.field-0-is at c.in-Ok-Some.ensures.number in
-          half-step g.R.ReadParagraphs.may_stand_at Sources source_row_at (sources_wanted c.args.archs.now) (λ (row : SourceRow). row.seq)
+          half-step g.R.ReadParagraphs.may_stand_at source_row_at (sources_wanted c.args.archs.now) (λ (row : SourceRow). row.seq)
           c.args.list.now c.loop-passed.list c.next_source.new.list (count c.loop-passed.list) (count c.next_source.new.list) c.loop-passed.passed half row
           (rw c.in-Ok-Some.field-0-is at (c.in-Ok-Some.ensures.value half.count)) (rw c.in-Ok-Some.field-0-is at c.in-Ok-Some.ensures.counts)
           (sources-split c.args.archs.now half.done (row ∷ []))

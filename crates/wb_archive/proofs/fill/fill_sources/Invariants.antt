@@ -1,5 +1,4 @@
 use Rattle.std.proofs.Common.{◌≡◌, []}
-use Rattle.wb_states.specs.declared.refusal.ListKind.TheVariants.{Sources}
 use Rattle.wb_states.specs.declared.scratch.SourceRow.{SourceRow}
 use Rattle.wb_merge.specs.Scratch.{source_row_at}
 use Rattle.wb_archive.specs.Fills.{sources_wanted}
@@ -12,6 +11,6 @@ invariant-loop-passed g l = record {
   follows : g.T.MergeTables.follows l.fn.tables l.tables;
   half : (at : Tables) → g.T.MergeTables.is_clean l.tables → g.T.MergeTables.holds l.fn.tables at
       → g.R.ReadParagraphs.passed l.fn.list ≡ 0 → at.now.sources ≡ []
-      → IsHalfFilled g.R.ReadParagraphs.may_stand_at Sources source_row_at (sources_wanted l.archs) (λ (row : SourceRow). row.seq)
+      → IsHalfFilled g.R.ReadParagraphs.may_stand_at source_row_at (sources_wanted l.archs) (λ (row : SourceRow). row.seq)
       (λ rows. g.T.MergeTables.holds l.tables (with_sources rows at)) l.fn.list l.list (g.R.ReadParagraphs.passed l.list) l.passed;
 }

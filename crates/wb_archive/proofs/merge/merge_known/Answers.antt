@@ -8,7 +8,7 @@ use Rattle.wb_states.specs.declared.reply.PartEnd.{PartEnd}
 use Rattle.wb_states.specs.Machine.{with_words}
 use Rattle.wb_merge.specs.Merged.{Records}
 use Rattle.wb_archive.specs.Fills.{sources_wanted}
-use Rattle.wb_archive.specs.Parts.{IsListing, IsPartDone, listing_from}
+use Rattle.wb_archive.specs.Parts.{IsListing, IsPartDone}
 use Rattle.wb_archive.specs.Tables.{with_records}
 use Rattle.wb_archive.proofs.MergeLemmas.{has-rows, part-unknown, part-with-sources, part-without-sources, unread-none, unread-text}
 use Rattle.wb_archive.proofs.StopLemmas.{if-ok-map}
@@ -56,9 +56,9 @@ returns-clause-value g c = λ at machine text archs clean holds unsaved empty un
       is = record { arch = refl; words = unread.words; begins = list.1.1 };
       done = part-with-sources g.R.ReadParagraphs.breaks c.merge_part.new.packages (λ (records : Records). g.T.MergeTables.holds c.merge_part.new.tables (with_records records at))
           machine text of c.in-Some.words at.now.machine.records read.0 end (sym unread.words ∙ c.in-Some.is) read.1.0
-          (subst (λ (a : ArchWords). IsPartDone (IsListing g.R.ReadParagraphs.breaks c.merge_part.new.packages (listing_from a read.0 (begun (paragraphs_in (lines_of list.0)))))
+          (subst (λ (a : ArchWords). IsPartDone (IsListing g.R.ReadParagraphs.breaks c.merge_part.new.packages a read.0 (begun (paragraphs_in (lines_of list.0))))
           (λ records. g.T.MergeTables.holds c.merge_part.new.tables (with_records records at)) at.now.machine.records a.name end) arch_is
-          (subst (λ place. IsPartDone (IsListing g.R.ReadParagraphs.breaks c.merge_part.new.packages (listing_from c.in_ok-arch.arch read.0 place))
+          (subst (λ place. IsPartDone (IsListing g.R.ReadParagraphs.breaks c.merge_part.new.packages c.in_ok-arch.arch read.0 place)
           (λ records. g.T.MergeTables.holds c.merge_part.new.tables (with_records records at)) at.now.machine.records c.in_ok-arch.arch.name end) list.1.0 done.1.1));
     })
     (c.merge_part.ensures.value at archs read.0 clean holds first unsaved empty read.1.1

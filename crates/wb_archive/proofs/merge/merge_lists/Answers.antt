@@ -1,10 +1,11 @@
 use Rattle.std.proofs.Common.{◌≡◌, ◌∙◌, [], List, sym, subst, ap}
 use Rattle.deb_relations.specs.declared.arch.ArchWords.{ArchWords}
+use Rattle.wb_states.specs.declared.refusal.ListKind.TheVariants.{Sources}
 use Rattle.wb_states.specs.declared.scratch.SourceRow.{SourceRow}
-use Rattle.wb_archive.specs.Faults.{IsRefused}
+use Rattle.wb_merge.specs.Scratch.{source_row_at}
 use Rattle.wb_archive.specs.Fills.{IsFilled, sources_wanted}
 use Rattle.wb_archive.specs.Merges.{archs_of}
-use Rattle.wb_archive.specs.Reads.{sources_at}
+use Rattle.wb_archive.specs.Reads.{IsRefused, sources_at}
 use Rattle.wb_archive.specs.Sources.{AreAllKnown}
 use Rattle.wb_archive.specs.Tables.{Tables, with_records, with_sources}
 use Rattle.wb_archive.proofs.MergeLemmas.{known-all, sources-read, unread-none, unread-text}
@@ -24,7 +25,7 @@ returns-clause-value g c = λ at machine clean holds unsaved no_sources no_binar
     let text = list.0 in
     let Held = λ (rows : List SourceRow). g.T.MergeTables.holds c.fill_sources.new.tables (with_sources rows at) in
     let read = sources-read g.R.ReadParagraphs.breaks c.fill_sources.new.list Held text c.deref-2.result.now c.in_ok-bad.bad
-    (subst (λ place. IsFilled (sources_at place) (sources_wanted c.deref-2.result.now) Held (IsRefused g.R.ReadParagraphs.breaks c.fill_sources.new.list (sources_at place)) c.in_ok-bad.bad)
+    (subst (λ place. IsFilled (sources_at place) (sources_wanted c.deref-2.result.now) Held (IsRefused g.R.ReadParagraphs.breaks c.fill_sources.new.list Sources source_row_at place) c.in_ok-bad.bad)
     list.1.0 filled.1.1) in
     let merged = c.in_ok-replies.ensures.value (with_sources read.0 at) machine text c.deref-2.result.now at_parts read.1.0 unsaved no_binaries parts_unread read.1.1 known in
     let parts = merged.done in

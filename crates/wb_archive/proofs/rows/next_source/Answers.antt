@@ -10,7 +10,7 @@ returns-in-Ok-clause-number g c = source-seq (c.args.passed + 1) (g.R.Found.Fiel
 pub returns-in-Ok-clause-value : goal.returns-in-Ok-clause-value
 returns-in-Ok-clause-value g c = λ count.
     let laws = g.met.R.ReadParagraphs in
-    gives-row g.R.ReadParagraphs.may_stand_at g.R.ReadParagraphs.passed laws.stands laws.counts Sources source_row_at c.args.list.now c.next.new.self c.args.passed (g.R.Found.Fields.fields c.in-Ok-Some.found) c.in-Ok.row
+    gives-row g.R.ReadParagraphs.may_stand_at g.R.ReadParagraphs.passed laws.stands laws.counts source_row_at c.args.list.now c.next.new.self c.args.passed (g.R.Found.Fields.fields c.in-Ok-Some.found) c.in-Ok.row
     (rw c.in-Ok-Some.field-0-is at c.in-Ok-Some.ensures.ok) count c.in-Ok.ensures.value
 
 pub returns-in-Ok-clause-counts : goal.returns-in-Ok-clause-counts
