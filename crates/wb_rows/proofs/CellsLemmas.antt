@@ -63,9 +63,9 @@ begins (cell ∷ cells) more = (refl, later cell (cells ++ more) 0 cells (begins
 
 -- ---- a whole row
 
--- an entry whose row begins with these columns is the other one
-pub entry-same : (a b : Entry) → HasColumns (record_cells a) 0 (text_cell b.0.0 ∷ text_cell b.0.1 ∷ field_cells b.1) → a ≡ b
-entry-same a b (arch, (source, (state, (version, (priority, (section, (built, (rebuild, (holder, (take, (waits, (depends, (note, (message, (urgency, end))))))))))))))) =
+-- an entry whose row begins with the cells of another one that both schemas have, and which has its build priority, is that one
+shared-same : (more : Row) (a b : Entry) → HasColumns (shared_cells a ++ more) 0 (shared_cells b) → a.1.build_priority ≡ b.1.build_priority → a ≡ b
+shared-same more a b (arch, (source, (state, (version, (priority, (section, (built, (rebuild, (holder, (take, (waits, (depends, (note, (message, end)))))))))))))) urgency =
     λ i. (
       (text-same a.0.0 b.0.0 arch i, text-same a.0.1 b.0.1 source i),
       record {
@@ -81,31 +81,24 @@ entry-same a b (arch, (source, (state, (version, (priority, (section, (built, (r
         depends = text_or_null-same a.1.depends b.1.depends depends i;
         note = text-same a.1.note b.1.note note i;
         message = text-same a.1.message b.1.message message i;
-        build_priority = int-same a.1.build_priority b.1.build_priority urgency i;
+        build_priority = urgency i;
       },
     )
 
+-- the first of the columns that a row has
+front : (row : Row) (at : ℕ) (cells more : Row) → HasColumns row at (cells ++ more) → HasColumns row at cells
+front row at [] more h = tt
+front row at (cell ∷ cells) more h = (h.0, front row (suc at) cells more h.1)
+
+-- an entry whose row begins with these columns is the other one
+pub entry-same : (a b : Entry) → HasColumns (record_cells a) 0 (text_cell b.0.0 ∷ text_cell b.0.1 ∷ field_cells b.1) → a ≡ b
+entry-same a b h =
+    shared-same (Int a.1.build_priority ∷ number (rank_of a.1) ∷ []) a b (front (record_cells a) 0 (shared_cells b) (Int b.1.build_priority ∷ []) h)
+    (int-same a.1.build_priority b.1.build_priority h.1.1.1.1.1.1.1.1.1.1.1.1.1.1.0)
+
 -- so it is with those of the first schema
 pub first-same : (a b : Entry) → IsOfFirst a.1 → IsOfFirst b.1 → HasColumns (first_cells a) 0 (shared_cells b) → a ≡ b
-first-same a b one other (arch, (source, (state, (version, (priority, (section, (built, (rebuild, (holder, (take, (waits, (depends, (note, (message, end)))))))))))))) =
-    λ i. (
-      (text-same a.0.0 b.0.0 arch i, text-same a.0.1 b.0.1 source i),
-      record {
-        state = state-same a.1.state b.1.state state i;
-        version = text-same a.1.version b.1.version version i;
-        priority = text-same a.1.priority b.1.priority priority i;
-        section = text-same a.1.section b.1.section section i;
-        earlier = flag-same a.1.earlier b.1.earlier built i;
-        number = number-same a.1.number b.1.number rebuild i;
-        holder = text_or_null-same a.1.holder b.1.holder holder i;
-        take = number_or_null-same a.1.take b.1.take take i;
-        waits = text-same a.1.waits b.1.waits waits i;
-        depends = text_or_null-same a.1.depends b.1.depends depends i;
-        note = text-same a.1.note b.1.note note i;
-        message = text-same a.1.message b.1.message message i;
-        build_priority = (one.build_priority ∙ sym other.build_priority) i;
-      },
-    )
+first-same a b one other h = shared-same (number (first_rank_of a.1) ∷ []) a b h (one.build_priority ∙ sym other.build_priority)
 
 -- no two entries of the first schema have one row
 pub first_cells-same : (a b : Entry) → IsOfFirst a.1 → IsOfFirst b.1 → first_cells a ≡ first_cells b → a ≡ b

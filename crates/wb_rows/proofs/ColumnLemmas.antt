@@ -27,22 +27,17 @@ joined row at (cell ∷ cells) more h k =
     let place : suc (length cells) + at ≡ length cells + suc at = omega arith in
     (h.0, joined row (suc at) cells more h.1 (subst (λ (n : ℕ). HasColumns row n more) place k))
 
--- the fields of a record, from their columns
-pub fields : (row : Row) (current : Record)
-    → HasColumns row 2 (state_cell current.state ∷ text_cell current.version ∷ []) → HasColumns row 4 (text_cell current.priority ∷ text_cell current.section ∷ [])
-    → HasColumns row 6 (flag current.earlier ∷ number current.number ∷ []) → HasColumns row 8 (text_or_null current.holder ∷ number_or_null current.take ∷ [])
-    → HasColumns row 10 (text_cell current.waits ∷ text_or_null current.depends ∷ []) → HasColumns row 12 (text_cell current.note ∷ text_cell current.message ∷ [])
-    → HasColumns row 14 (Int current.build_priority ∷ []) → HasColumns row 2 (field_cells current)
-fields row current s l b h n r u =
-    (s.0, (s.1.0, (l.0, (l.1.0, (b.0, (b.1.0, (h.0, (h.1.0, (n.0, (n.1.0, (r.0, (r.1.0, (u.0, tt)))))))))))))
-
--- the fields of a record of the first schema, from their columns
-pub first_fields : (row : Row) (current : Record)
+-- the fields of a record that both schemas have, from their columns
+pub shared : (row : Row) (current : Record)
     → HasColumns row 2 (state_cell current.state ∷ text_cell current.version ∷ []) → HasColumns row 4 (text_cell current.priority ∷ text_cell current.section ∷ [])
     → HasColumns row 6 (flag current.earlier ∷ number current.number ∷ []) → HasColumns row 8 (text_or_null current.holder ∷ number_or_null current.take ∷ [])
     → HasColumns row 10 (text_cell current.waits ∷ text_or_null current.depends ∷ []) → HasColumns row 12 (text_cell current.note ∷ text_cell current.message ∷ [])
     → HasColumns row 2 (shared_fields current)
-first_fields row current s l b h n r = (s.0, (s.1.0, (l.0, (l.1.0, (b.0, (b.1.0, (h.0, (h.1.0, (n.0, (n.1.0, (r.0, (r.1.0, tt))))))))))))
+shared row current s l b h n r = (s.0, (s.1.0, (l.0, (l.1.0, (b.0, (b.1.0, (h.0, (h.1.0, (n.0, (n.1.0, (r.0, (r.1.0, tt))))))))))))
+
+-- the fields of a record, from these and its build priority
+pub fields : (row : Row) (current : Record) → HasColumns row 2 (shared_fields current) → HasColumns row 14 (Int current.build_priority ∷ []) → HasColumns row 2 (field_cells current)
+fields row current = joined row 2 (shared_fields current) (Int current.build_priority ∷ [])
 
 -- a row of 15 columns that are those of a key, of fields and of their rank is the row of that record in the first schema
 pub first_whole : (row : Row) (arch source : List ℕ) (current : Record) → length row ≡ 15 → HasColumns row 0 (text_cell arch ∷ text_cell source ∷ [])

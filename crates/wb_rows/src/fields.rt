@@ -1,5 +1,5 @@
 //! The key and the fields of a record, a few columns at a time.
-ghost use Rattle.std.specs.Prelude.{◌≡◌, ◌≤◌, [], ◌∷◌, length, IfOk, IfErr};
+ghost use Rattle.std.specs.Prelude.{◌≡◌, ◌≤◌, [], ◌∷◌, length, pos, IfOk, IfErr};
 ghost use Rattle.sqlite.specs.declared.types.Value.TheVariants.{Int};
 ghost use Rattle.wb_rows.specs.declared.fault.RowFault.TheVariants.{Malformed};
 ghost use Rattle.wb_rows.specs.Cells.{number, number_or_null, flag, text_or_null};
@@ -34,27 +34,11 @@ pub(crate) fn fields_of(row: &Row) -> Result<Record, RowFault>
     ensures value { IfOk result (λ made. HasColumns row.now 2 (field_cells made)) }
     ensures refused { IfErr result (λ fault. fault ≡ Malformed → IsNoRecord row.now) }
 {
-    let (state, version) = standing_of(row)?;
-    let (priority, section) = labels_of(row)?;
-    let (earlier, number) = builds_of(row)?;
-    let (holder, take) = hold_of(row)?;
-    let (waits, depends) = needs_of(row)?;
-    let (note, message) = remarks_of(row)?;
+    let shared = shared_fields_of(row)?;
     let build_priority = urgency_of(row)?;
     Ok(Record {
-        state,
-        version,
-        priority,
-        section,
-        earlier,
-        number,
-        holder,
-        take,
-        waits,
-        depends,
-        note,
-        message,
         build_priority,
+        ..shared
     })
 }
 
@@ -65,10 +49,21 @@ pub(crate) fn first_fields_of(row: &Row) -> Result<Record, RowFault>
     ensures value { IfOk result (λ made. HasColumns row.now 2 (shared_fields made) × IsOfFirst made) }
     ensures refused { IfErr result (λ fault. fault ≡ Malformed → IsNoFirst row.now) }
 {
-    let (state, version) = standing_of(row)?;
-    if state == State::BuildAttempted {
+    let shared = shared_fields_of(row)?;
+    if shared.state == State::BuildAttempted {
         return Err(RowFault::Malformed);
     }
+    Ok(shared)
+}
+
+/// The fields of a record that both schemas have. Its build priority is 0.
+fn shared_fields_of(row: &Row) -> Result<Record, RowFault>
+    requires { 14 ≤ length row.now }
+    ensures value { IfOk result (λ made.
+        HasColumns row.now 2 (shared_fields made) × (made.build_priority ≡ pos 0)) }
+    ensures refused { IfErr result (λ fault. fault ≡ Malformed → IsNoStart row.now) }
+{
+    let (state, version) = standing_of(row)?;
     let (priority, section) = labels_of(row)?;
     let (earlier, number) = builds_of(row)?;
     let (holder, take) = hold_of(row)?;
