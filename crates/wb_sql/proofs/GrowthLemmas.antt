@@ -1,5 +1,5 @@
 -- How a schema grows by the office's tables and indexes.
-use Rattle.std.proofs.Common.{◌≡◌, ℕ, ◌+◌, ◌<◌, ◌≤◌, not, true, false, List, [], ◌∷◌, ◌++◌, refl, sym, arith, append-nil, map}
+use Rattle.std.proofs.Common.{◌≡◌, ℕ, ◌+◌, ◌≤◌, not, true, false, List, [], ◌∷◌, ◌++◌, refl, sym, arith, append-nil, map}
 use Rattle.std.specs.List.{AllByRecursion, list_all}
 use Rattle.std.specs.Fmt.{digits}
 use Rattle.std.proofs.lemmas.Bool.{and_parts, or_left, or_right}
@@ -12,7 +12,7 @@ use Rattle.sqlite_schema.specs.declared.schema.Index.{Index}
 use Rattle.sqlite_schema.specs.Names.{same_name}
 use Rattle.wb_sql.specs.Tables.{office, arch, builder, source_record, scratch_source, scratch_binary}
 use Rattle.wb_sql.specs.Tables.{record_order, record_take, source_name, binary_source, binary_name}
-use Rattle.wb_sql.specs.Among.{HasTable, tree_named, table_in, names_office, refers_to_none, are_unreferred, is_quiet, are_quiet, is_office_name, LacksOffice, IsNumbered, HasOffice}
+use Rattle.wb_sql.specs.Among.{HasTable, tree_named, table_in, names_office, refers_to_none, is_quiet, is_office_name, LacksOffice, IsNumbered, HasOffice}
 use Rattle.wb_sql.specs.Making.{with_office, with_arch, with_builder, with_source_record, with_record_order, with_record_take, with_scratch_source, with_source_name, with_scratch_binary, with_binary_source, with_tables}
 use Rattle.wb_sql.proofs.AppendLemmas.{all_so, all_pass, tests_so}
 use Rattle.wb_sql.proofs.FreeLemmas.{office_free}
@@ -26,10 +26,6 @@ pub record IsGrown (base schema : Schema) (tables : List Table) (names : List (L
   pub has : AllByRecursion (λ table. HasTable schema (table_in schema table)) tables
   pub free : AllByRecursion (λ name. is_used schema name ≡ false) names
   pub counted : lacks_sequence schema ≡ false
-  pub unreferred : are_unreferred schema ≡ true
-  pub quiet : are_quiet schema ≡ true
-  pub bounded : next_tree schema ≤ 65556
-  pub below : AllByRecursion (λ index. index.table < next_tree schema) schema.indexes
 
 -- ---- the names of the office
 
@@ -229,10 +225,6 @@ grown_of base schema owned names room s = record {
   has = has_owned schema owned s.owns;
   free = s.free;
   counted = s.counted;
-  unreferred = s.unreferred;
-  quiet = s.quiet;
-  bounded = let bounded : next_tree schema + room ≤ 65556 = s.bounded in omega arith;
-  below = s.below;
 }
 
 module _ (base : Schema) (lacks : LacksOffice base) (numbered : IsNumbered base) where

@@ -37,7 +37,9 @@ pub mod SettledLemmas
 pub mod ShownLemmas
 pub mod StageLemmas
 pub mod StepLemmas
+pub mod StillLemmas
 pub mod TestLemmas
 pub mod UpdateLemmas
+pub mod UpgradeLemmas
 pub mod UpsertLemmas
 pub mod WriteLemmas

@@ -86,7 +86,7 @@ pub record IsStage (base schema : Schema) (owned : List Owned) (names : List (Li
   pub below : AllByRecursion (λ index. index.table < next_tree schema) schema.indexes
 
 -- a name differs from those of the table and of the indexes of its keys
-abbrev differs : Table → ℕ → List ℕ → Bool
+abbrev pub differs : Table → ℕ → List ℕ → Bool
 differs table tree name = not (same_name table.name name) && list_all (λ i. not (same_name i.name name)) (automatics (table_at tree table) 0 (tree + 1) table.uniques)
 
 -- a table of the office, of at most one key, that differs from these names
@@ -150,7 +150,7 @@ table_step base schema table owned names room was new =
     }
 
 -- names that differ are not one
-apart_of : (name other : List ℕ) → not (same_name name other) ≡ true → name ≢ other
+pub apart_of : (name other : List ℕ) → not (same_name name other) ≡ true → name ≢ other
 apart_of name other differ e = let same : same_name name other ≡ true = subst (λ n. same_name name n ≡ true) e ((lowered name name).1 refl) in let no = not-true _ differ in cc
 
 -- a stage on which an index is made on the last table

@@ -20,14 +20,14 @@ use Rattle.wb_sql.specs.Tables.{office, arch, builder, source_record, scratch_so
 use Rattle.wb_sql.specs.Among.{HasTable, HasOffice, table_in, tree_named, names_office, is_quiet, are_quiet}
 
 -- what has the same name as a name has the same name as each that is the same
-same_name_as : (name a b : List ℕ) → same_name a b ≡ true → same_name name a ≡ same_name name b
+pub same_name_as : (name a b : List ℕ) → same_name a b ≡ true → same_name name a ≡ same_name name b
 unfolding same_name
 same_name_as name a b same =
     let lowered : map to_ascii_lowercase a ≡ map to_ascii_lowercase b =
     (bytes_eq-Decides (map to_ascii_lowercase a) (map to_ascii_lowercase b)).0 (sym (is_eq-slice_cmp (map to_ascii_lowercase a) (map to_ascii_lowercase b)) ∙ same) in
     ap (λ l. is_eq (slice_cmp nat_cmp (map to_ascii_lowercase name) l)) lowered
 
-named_as : (tables : List Table) (a b : List ℕ) → same_name a b ≡ true → list_any (λ t. same_name t.name a) tables ≡ list_any (λ t. same_name t.name b) tables
+pub named_as : (tables : List Table) (a b : List ℕ) → same_name a b ≡ true → list_any (λ t. same_name t.name a) tables ≡ list_any (λ t. same_name t.name b) tables
 named_as [] a b same = refl
 named_as (t ∷ tables) a b same = ap₂ ◌||◌ (same_name_as t.name a b same) (named_as tables a b same)
 

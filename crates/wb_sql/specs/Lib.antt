@@ -15,3 +15,4 @@ pub mod Settled
 pub mod Statements
 pub mod Tables
 pub mod Transactions
+pub mod Upgrading

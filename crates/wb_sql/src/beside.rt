@@ -136,7 +136,7 @@ fn refers_to_none(table: &Table) -> bool
 }
 
 /// Whether it is the name of one of the office's tables.
-fn names_office(name: &[u8]) -> bool
+pub(crate) fn names_office(name: &[u8]) -> bool
     ensures value { result ≡ names_office name.now }
 {
     same_name(b"office", name)
@@ -186,7 +186,7 @@ fn is_quiet(table: &Table) -> bool
 }
 
 /// Whether the foreign key does nothing.
-fn does_nothing(reference: &Reference) -> bool
+pub(crate) fn does_nothing(reference: &Reference) -> bool
     ensures value { result ≡ does_nothing reference.now }
 {
     is_no_action(reference.on_delete) && is_no_action(reference.on_update)

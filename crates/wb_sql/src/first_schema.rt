@@ -32,7 +32,7 @@ pub fn has_first_tables(schema: &Schema) -> bool
 }
 
 /// Whether the schema has the table of the records of the first schema, with its three indexes alone.
-fn has_states(schema: &Schema) -> bool
+pub(crate) fn has_states(schema: &Schema) -> bool
     ensures value { IsTrue result ↔ HasStates schema.now }
 {
     let Some(table) = find_table(schema, "source_state") else {

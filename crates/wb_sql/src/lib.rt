@@ -19,6 +19,7 @@ mod savepoints;
 pub mod scratch;
 pub mod statements;
 mod transaction;
+mod upgrading;
 
 pub use changes::{delete, insert, replace, update, upsert};
 pub use files::{close, open, surrender};
@@ -29,3 +30,4 @@ pub use reading::read;
 pub use recognition::{has_office_tables, lacks_office};
 pub use savepoints::{back_to, release, save};
 pub use transaction::{CommitError, begin, commit, execute, is_usable, roll_back};
+pub use upgrading::{has_first_office_tables, has_upgraded_office_tables, make_second_tables};

@@ -38,7 +38,7 @@ pub fn has_office_tables(schema: &Schema) -> bool
 }
 
 /// Whether the schema has each of the office's tables, with its indexes alone.
-fn has_tables(schema: &Schema) -> bool
+pub(crate) fn has_tables(schema: &Schema) -> bool
     ensures value { IsTrue result ↔ HasTables schema.now }
 {
     has_office(schema)

@@ -1,0 +1,357 @@
+-- How a schema grows from the tables of the first schema to those of the second.
+use Rattle.std.proofs.Common.{◌≡◌, ◌≢◌, ℕ, ◌<◌, ◌≤◌, ◌^◌, ◌||◌, not, true, false, List, [], ◌∷◌, ◌++◌, refl, sym, ap, subst, ◌∙◌, arith, append-nil, map}
+use Rattle.std.specs.List.{AllByRecursion, list_all}
+use Rattle.std.specs.Fmt.{digits}
+use Rattle.std.proofs.lemmas.Bool.{and_parts, not-true}
+use Rattle.std.proofs.lemmas.List.{map-append}
+use Rattle.sqlite.specs.Schema.{Schema}
+use Rattle.sqlite.specs.Table.{Table}
+use Rattle.sqlite.specs.Change.{created, indexed, next_tree, is_used}
+use Rattle.sqlite.specs.Does.{lacks_sequence}
+use Rattle.sqlite_catalog.specs.Listing.{automatic}
+use Rattle.sqlite_rules.proofs.ListLemmas.{test_push}
+use Rattle.sqlite_schema.specs.declared.schema.Index.{Index}
+use Rattle.sqlite_schema.specs.Names.{same_name}
+use Rattle.wb_sql.specs.Among.{HasTable, IsNumbered, index_at, table_at, table_in, tree_named}
+use Rattle.wb_sql.specs.FirstSchema.{HasStates, source_state}
+use Rattle.wb_sql.specs.Making.{with_index}
+use Rattle.wb_sql.specs.Recognition.{HasIndexed, indexes_on, treeless}
+use Rattle.wb_sql.specs.Tables.{office, arch, builder, source_record, scratch_source, scratch_binary}
+use Rattle.wb_sql.specs.Tables.{record_order, record_take, source_name, binary_source, binary_name}
+use Rattle.wb_sql.specs.Upgrading.{HasFirstOffice, HasUpgradedOffice, names_either, refers_to_neither, is_still, second_names}
+use Rattle.wb_sql.specs.Upgrading.{with_second_record, with_second_order, with_second_take, with_second_source, with_second_binary, with_second}
+use Rattle.wb_sql.proofs.AppendLemmas.{all_both, all_pass, all_fail, each_fails}
+use Rattle.wb_sql.proofs.CreatedLemmas.{has_below, created_keeps, created_has, indexed_keeps, created_keeps_indexes, created_has_indexes, indexed_has_indexes, indexed_keeps_indexes, one_name, same_tree, new_tree, created_free, indexed_free, created_counted}
+use Rattle.wb_sql.proofs.GrowthLemmas.{IsGrown}
+use Rattle.wb_sql.proofs.OwnedLemmas.{differs, apart_of}
+
+-- ---- a table with its indexes
+
+-- a table with its indexes in the tree that its name has
+indexed_in : (schema : Schema) (table : Table) (indexes : List Index) (tree : ℕ) → tree_named schema table.name ≡ tree → HasTable schema (table_at tree table)
+    → map treeless (indexes_on tree schema.indexes) ≡ map (index_at 0 tree) indexes → HasIndexed schema table indexes
+indexed_in schema table indexes tree same has are = record {
+  has = subst (λ t. HasTable schema (table_at t table)) (sym same) has;
+  indexed = subst (λ t. map treeless (indexes_on t schema.indexes) ≡ map (index_at 0 t) indexes) (sym same) are;
+}
+
+-- it stays where another table is made
+created_keeps_indexed : (schema : Schema) (made table : Table) (indexes : List Index) → HasIndexed schema table indexes → HasIndexed (created schema made) table indexes
+created_keeps_indexed schema made table indexes h =
+    let tree : ℕ = tree_named schema table.name in
+    let same = created_keeps_indexes schema made tree (indexes_on tree schema.indexes) (has_below schema (table_in schema table) h.has) refl in
+    indexed_in (created schema made) table indexes tree (same_tree schema made table h.has) (created_keeps schema made (table_in schema table) h.has) (ap (map treeless) same ∙ h.indexed)
+
+-- the new table of records, with the index of its key
+created_has_records : (schema : Schema) → is_used schema source_record.name ≡ false → next_tree schema < 2 ^ 31
+    → AllByRecursion (λ i. i.table < next_tree schema) schema.indexes
+    → HasIndexed (created schema source_record) source_record (automatic source_record 0 (1 ∷ 2 ∷ []) 6 ∷ [])
+created_has_records schema free low below =
+    indexed_in (created schema source_record) source_record (automatic source_record 0 (1 ∷ 2 ∷ []) 6 ∷ []) (next_tree schema) (new_tree schema source_record free)
+    (created_has schema source_record free low) (ap (map treeless) (created_has_indexes schema source_record below))
+
+-- a table stays where an index is made on a table with another name
+indexed_keeps_indexed : (schema : Schema) (on : Table) (index : Index) (table : Table) (indexes : List Index) → HasTable schema (table_in schema on) → table.name ≢ on.name
+    → HasIndexed schema table indexes → HasIndexed (with_index schema on index) table indexes
+indexed_keeps_indexed schema on index table indexes there apart h =
+    let tree : ℕ = tree_named schema table.name in
+    record {
+      has = indexed_keeps schema (table_in schema on) index (table_in schema table) h.has;
+      indexed = ap (map treeless) (indexed_keeps_indexes schema (table_in schema on) index tree (indexes_on tree schema.indexes)
+          (λ e. apart (one_name schema (table_in schema table) (table_in schema on) h.has there (sym e))) refl)
+          ∙ h.indexed;
+    }
+
+-- the table with its new index
+indexed_has_indexed : (schema : Schema) (table : Table) (index : Index) (indexes : List Index) → HasIndexed schema table indexes
+    → HasIndexed (with_index schema table index) table (indexes ++ index ∷ [])
+indexed_has_indexed schema table index indexes h =
+    let tree : ℕ = tree_named schema table.name in
+    let before : List Index = indexes_on tree schema.indexes in
+    let new : Index = record index { tree = next_tree schema; table = tree } in
+    record {
+      has = indexed_keeps schema (table_in schema table) index (table_in schema table) h.has;
+      indexed = ap (map treeless) (indexed_has_indexes schema (table_in schema table) index before refl)
+          ∙ (map-append treeless before (new ∷ [])
+          ∙ (ap (λ those. those ++ index_at 0 tree index ∷ []) h.indexed
+          ∙ sym (map-append (index_at 0 tree) indexes (index ∷ []))));
+    }
+
+-- ---- names
+
+-- names that are free stay free where a table with other names is made
+created_leaves_free : (schema : Schema) (table : Table) (names : List (List ℕ)) → AllByRecursion (λ name. is_used schema name ≡ false) names
+    → list_all (differs table (next_tree schema)) names ≡ true → AllByRecursion (λ name. is_used (created schema table) name ≡ false) names
+created_leaves_free schema table names free unlike =
+    all_both _ _ _
+    (λ name free apart. let parts = and_parts _ _ apart in created_free schema table name free (not-true _ parts.0) (all_fail (λ i. same_name i.name name) _ parts.1))
+    names free (all_pass (differs table (next_tree schema)) names unlike)
+
+-- or an index with another
+indexed_leaves_free : (schema : Schema) (on : Table) (index : Index) (names : List (List ℕ)) → AllByRecursion (λ name. is_used schema name ≡ false) names
+    → list_all (λ name. not (same_name index.name name)) names ≡ true → AllByRecursion (λ name. is_used (indexed schema on index) name ≡ false) names
+indexed_leaves_free schema on index names free unlike =
+    all_both _ _ _ (λ name free apart. indexed_free schema on index name free apart) names free (all_fail (λ name. same_name index.name name) names unlike)
+
+-- ---- stages
+
+-- the names of what is made, from each stage on
+abbrev pub from_second_name : List (List ℕ)
+from_second_name = binary_name.name ∷ []
+
+abbrev pub from_second_binary : List (List ℕ)
+from_second_binary = binary_source.name ∷ from_second_name
+
+abbrev pub from_second_source : List (List ℕ)
+from_second_source = source_name.name ∷ from_second_binary
+
+abbrev pub from_second_take : List (List ℕ)
+from_second_take = record_take.name ∷ from_second_source
+
+abbrev pub from_second_order : List (List ℕ)
+from_second_order = record_order.name ∷ from_second_take
+
+-- the table of records differs from what is made after it
+record_unlike : (tree : ℕ) → list_all (differs source_record tree) from_second_order ≡ true
+unfolding same_name digits
+record_unlike tree = refl
+
+-- and so does each of the indexes
+order_unlike : list_all (λ name. not (same_name record_order.name name)) from_second_take ≡ true
+unfolding same_name
+order_unlike = refl
+
+take_unlike : list_all (λ name. not (same_name record_take.name name)) from_second_source ≡ true
+unfolding same_name
+take_unlike = refl
+
+source_unlike : list_all (λ name. not (same_name source_name.name name)) from_second_binary ≡ true
+unfolding same_name
+source_unlike = refl
+
+binary_unlike : list_all (λ name. not (same_name binary_source.name name)) from_second_name ≡ true
+unfolding same_name
+binary_unlike = refl
+
+-- what is known of a schema on the way: the table of records is made, the tables have these indexes, and these names are free
+pub record IsUpgrading (base schema : Schema) (records sources binaries : List Index) (names : List (List ℕ)) : Type 0 where
+  pub tables_are : schema.tables ≡ base.tables ++ table_at (next_tree base) source_record ∷ []
+  pub office_is : HasIndexed schema office []
+  pub archs_are : HasIndexed schema arch (automatic arch 0 (1 ∷ []) 2 ∷ [])
+  pub builders_are : HasIndexed schema builder (automatic builder 0 (1 ∷ 2 ∷ []) 4 ∷ [])
+  pub states_are : HasStates schema
+  pub records_are : HasIndexed schema source_record records
+  pub sources_are : HasIndexed schema scratch_source sources
+  pub binaries_are : HasIndexed schema scratch_binary binaries
+  pub free : AllByRecursion (λ name. is_used schema name ≡ false) names
+  pub counted : lacks_sequence schema ≡ false
+
+-- an index is made on the table of records
+index_records : {base schema : Schema} {records sources binaries : List Index} {names : List (List ℕ)} (index : Index)
+    → IsUpgrading base schema records sources binaries (index.name ∷ names) → list_all (λ name. not (same_name index.name name)) names ≡ true
+    → IsUpgrading base (with_index schema source_record index) (records ++ index ∷ []) sources binaries names
+unfolding same_name
+index_records {base} {schema} {records} {sources} {binaries} {names} index was unlike =
+    let there = was.records_are.has in
+    record {
+      tables_are = was.tables_are;
+      office_is = indexed_keeps_indexed schema source_record index office _ there (apart_of _ _ refl) was.office_is;
+      archs_are = indexed_keeps_indexed schema source_record index arch _ there (apart_of _ _ refl) was.archs_are;
+      builders_are = indexed_keeps_indexed schema source_record index builder _ there (apart_of _ _ refl) was.builders_are;
+      states_are = indexed_keeps_indexed schema source_record index source_state _ there (apart_of _ _ refl) was.states_are;
+      records_are = indexed_has_indexed schema source_record index records was.records_are;
+      sources_are = indexed_keeps_indexed schema source_record index scratch_source _ there (apart_of _ _ refl) was.sources_are;
+      binaries_are = indexed_keeps_indexed schema source_record index scratch_binary _ there (apart_of _ _ refl) was.binaries_are;
+      free = indexed_leaves_free schema (table_in schema source_record) index names was.free.1 unlike;
+      counted = was.counted;
+    }
+
+-- or on the scratch table of source packages
+index_sources : {base schema : Schema} {records sources binaries : List Index} {names : List (List ℕ)} (index : Index)
+    → IsUpgrading base schema records sources binaries (index.name ∷ names) → list_all (λ name. not (same_name index.name name)) names ≡ true
+    → IsUpgrading base (with_index schema scratch_source index) records (sources ++ index ∷ []) binaries names
+unfolding same_name
+index_sources {base} {schema} {records} {sources} {binaries} {names} index was unlike =
+    let there = was.sources_are.has in
+    record {
+      tables_are = was.tables_are;
+      office_is = indexed_keeps_indexed schema scratch_source index office _ there (apart_of _ _ refl) was.office_is;
+      archs_are = indexed_keeps_indexed schema scratch_source index arch _ there (apart_of _ _ refl) was.archs_are;
+      builders_are = indexed_keeps_indexed schema scratch_source index builder _ there (apart_of _ _ refl) was.builders_are;
+      states_are = indexed_keeps_indexed schema scratch_source index source_state _ there (apart_of _ _ refl) was.states_are;
+      records_are = indexed_keeps_indexed schema scratch_source index source_record records there (apart_of _ _ refl) was.records_are;
+      sources_are = indexed_has_indexed schema scratch_source index sources was.sources_are;
+      binaries_are = indexed_keeps_indexed schema scratch_source index scratch_binary _ there (apart_of _ _ refl) was.binaries_are;
+      free = indexed_leaves_free schema (table_in schema scratch_source) index names was.free.1 unlike;
+      counted = was.counted;
+    }
+
+-- or on that of binary packages
+index_binaries : {base schema : Schema} {records sources binaries : List Index} {names : List (List ℕ)} (index : Index)
+    → IsUpgrading base schema records sources binaries (index.name ∷ names) → list_all (λ name. not (same_name index.name name)) names ≡ true
+    → IsUpgrading base (with_index schema scratch_binary index) records sources (binaries ++ index ∷ []) names
+unfolding same_name
+index_binaries {base} {schema} {records} {sources} {binaries} {names} index was unlike =
+    let there = was.binaries_are.has in
+    record {
+      tables_are = was.tables_are;
+      office_is = indexed_keeps_indexed schema scratch_binary index office _ there (apart_of _ _ refl) was.office_is;
+      archs_are = indexed_keeps_indexed schema scratch_binary index arch _ there (apart_of _ _ refl) was.archs_are;
+      builders_are = indexed_keeps_indexed schema scratch_binary index builder _ there (apart_of _ _ refl) was.builders_are;
+      states_are = indexed_keeps_indexed schema scratch_binary index source_state _ there (apart_of _ _ refl) was.states_are;
+      records_are = indexed_keeps_indexed schema scratch_binary index source_record records there (apart_of _ _ refl) was.records_are;
+      sources_are = indexed_keeps_indexed schema scratch_binary index scratch_source sources there (apart_of _ _ refl) was.sources_are;
+      binaries_are = indexed_has_indexed schema scratch_binary index binaries was.binaries_are;
+      free = indexed_leaves_free schema (table_in schema scratch_binary) index names was.free.1 unlike;
+      counted = was.counted;
+    }
+
+-- the index of the key of records
+abbrev pub record_key : Index
+record_key = automatic source_record 0 (1 ∷ 2 ∷ []) 6
+
+module _ (base : Schema) (first : HasFirstOffice base) (numbered : IsNumbered base) where
+  -- what is made has free names
+  names_free : AllByRecursion (λ name. is_used base name ≡ false) second_names
+  names_free = each_fails (λ name. is_used base name) second_names first.free
+
+  record_stage : IsUpgrading base (with_second_record base) (record_key ∷ []) [] [] from_second_order
+  unfolding with_second_record
+  record_stage =
+      let bounded : next_tree base ≤ 65536 = numbered.bounded in
+      record {
+        tables_are = refl;
+        office_is = created_keeps_indexed base source_record office _ first.tables.office_is;
+        archs_are = created_keeps_indexed base source_record arch _ first.tables.archs_are;
+        builders_are = created_keeps_indexed base source_record builder _ first.tables.builders_are;
+        states_are = created_keeps_indexed base source_record source_state _ first.tables.states_are;
+        records_are = created_has_records base names_free.0 (omega arith) numbered.indexes;
+        sources_are = created_keeps_indexed base source_record scratch_source _ first.tables.sources_are;
+        binaries_are = created_keeps_indexed base source_record scratch_binary _ first.tables.binaries_are;
+        free = created_leaves_free base source_record from_second_order names_free.1 (record_unlike (next_tree base));
+        counted = created_counted base source_record refl first.counted;
+      }
+
+  order_stage : IsUpgrading base (with_second_order base) (record_key ∷ record_order ∷ []) [] [] from_second_take
+  unfolding with_second_order
+  order_stage = index_records record_order record_stage order_unlike
+
+  take_stage : IsUpgrading base (with_second_take base) (record_key ∷ record_order ∷ record_take ∷ []) [] [] from_second_source
+  unfolding with_second_take
+  take_stage = index_records record_take order_stage take_unlike
+
+  source_stage : IsUpgrading base (with_second_source base) (record_key ∷ record_order ∷ record_take ∷ []) (source_name ∷ []) [] from_second_binary
+  unfolding with_second_source
+  source_stage = index_sources source_name take_stage source_unlike
+
+  binary_stage : IsUpgrading base (with_second_binary base) (record_key ∷ record_order ∷ record_take ∷ []) (source_name ∷ []) (binary_source ∷ []) from_second_name
+  unfolding with_second_binary
+  binary_stage = index_binaries binary_source source_stage binary_unlike
+
+  second_stage : IsUpgrading base (with_second base) (record_key ∷ record_order ∷ record_take ∷ []) (source_name ∷ []) (binary_source ∷ binary_name ∷ []) []
+  unfolding with_second
+  second_stage = index_binaries binary_name binary_stage refl
+
+-- ---- the schema on the way
+
+-- a stage is a schema on the way
+grown_by : {base schema : Schema} {records sources binaries : List Index} {names : List (List ℕ)} → IsUpgrading base schema records sources binaries names
+    → IsGrown base schema (source_record ∷ []) names
+grown_by {base} stage = record {
+  more = table_at (next_tree base) source_record ∷ [];
+  tables_are = stage.tables_are;
+  has = (stage.records_are.has, tt);
+  free = stage.free;
+  counted = stage.counted;
+}
+
+module _ (base : Schema) (first : HasFirstOffice base) (numbered : IsNumbered base) where
+  -- the schema before anything is made
+  pub first_grown : IsGrown base base [] second_names
+  first_grown = record { more = []; tables_are = sym (append-nil base.tables); has = tt; free = names_free base first numbered; counted = first.counted }
+
+  -- after the table of records
+  pub second_record_grown : IsGrown base (with_second_record base) (source_record ∷ []) from_second_order
+  second_record_grown = grown_by (record_stage base first numbered)
+
+  -- and its first index
+  pub second_order_grown : IsGrown base (with_second_order base) (source_record ∷ []) from_second_take
+  second_order_grown = grown_by (order_stage base first numbered)
+
+  -- and its second index
+  pub second_take_grown : IsGrown base (with_second_take base) (source_record ∷ []) from_second_source
+  second_take_grown = grown_by (take_stage base first numbered)
+
+  -- and the index of the scratch table of source packages
+  pub second_source_grown : IsGrown base (with_second_source base) (source_record ∷ []) from_second_binary
+  second_source_grown = grown_by (source_stage base first numbered)
+
+  -- and the first index of that of binary packages
+  pub second_binary_grown : IsGrown base (with_second_binary base) (source_record ∷ []) from_second_name
+  second_binary_grown = grown_by (binary_stage base first numbered)
+
+  -- the scratch tables, when their indexes are made
+  pub sources_there : HasTable (with_second_take base) (table_in (with_second_take base) scratch_source)
+  sources_there = (take_stage base first numbered).sources_are.has
+
+  pub binaries_there : HasTable (with_second_source base) (table_in (with_second_source base) scratch_binary)
+  binaries_there = (source_stage base first numbered).binaries_are.has
+
+  pub binaries_still_there : HasTable (with_second_binary base) (table_in (with_second_binary base) scratch_binary)
+  binaries_still_there = (binary_stage base first numbered).binaries_are.has
+
+-- ---- the office
+
+-- the new table is one of the office's, and its one foreign key does nothing
+record_unshared : (tree : ℕ) → (names_either (table_at tree source_record).name || refers_to_neither (table_at tree source_record)) ≡ true
+unfolding same_name
+record_unshared tree = refl
+
+record_still : (tree : ℕ) → is_still (table_at tree source_record) ≡ true
+unfolding same_name
+record_still tree = refl
+
+-- the schema with all that is made has the tables of the second schema, and those of the first beside them
+pub office_upgraded : (base : Schema) → HasFirstOffice base → IsNumbered base → HasUpgradedOffice (with_second base)
+office_upgraded base first numbered =
+    let stage = second_stage base first numbered in
+    record {
+      tables = record {
+        office_is = stage.office_is;
+        archs_are = stage.archs_are;
+        builders_are = stage.builders_are;
+        records_are = stage.records_are;
+        sources_are = stage.sources_are;
+        binaries_are = stage.binaries_are;
+      };
+      states_are = stage.states_are;
+      unshared = subst (λ tables. list_all (λ (t : Table). names_either t.name || refers_to_neither t) tables ≡ true) (sym stage.tables_are)
+          (test_push _ base.tables _ first.unshared (record_unshared (next_tree base)));
+      still = subst (λ tables. list_all is_still tables ≡ true) (sym stage.tables_are) (test_push is_still base.tables _ first.still (record_still (next_tree base)));
+    }
+
+-- ---- what each CREATE makes of the schema before it
+
+pub second_record_is : (base : Schema) → with_second_record base ≡ created base source_record
+unfolding with_second_record
+second_record_is base = refl
+
+pub second_order_is : (base : Schema) → with_second_order base ≡ with_index (with_second_record base) source_record record_order
+unfolding with_second_order
+second_order_is base = refl
+
+pub second_take_is : (base : Schema) → with_second_take base ≡ with_index (with_second_order base) source_record record_take
+unfolding with_second_take
+second_take_is base = refl
+
+pub second_source_is : (base : Schema) → with_second_source base ≡ with_index (with_second_take base) scratch_source source_name
+unfolding with_second_source
+second_source_is base = refl
+
+pub second_binary_is : (base : Schema) → with_second_binary base ≡ with_index (with_second_source base) scratch_binary binary_source
+unfolding with_second_binary
+second_binary_is base = refl
+
+pub second_is : (base : Schema) → with_second base ≡ with_index (with_second_binary base) scratch_binary binary_name
+unfolding with_second
+second_is base = refl
