@@ -1,5 +1,5 @@
-"""The program of crates/trials, which a test runs: a line on its standard input says what follows, `requests`, `messages`,
-`merges` or `stops`.
+"""The program of crates/trials, which a test runs: a line on its standard input says what follows, `requests`, `streams`,
+`messages`, `merges` or `stops`.
 
 From the environment: TRIALS is the program, that of crates/trials where it is not set, which is then built if need be.
 """
@@ -10,6 +10,7 @@ from pathlib import Path
 
 ROOT = Path(__file__).resolve().parent.parent
 REQUESTS, MESSAGES, MERGES, STOPS = "requests\n", "messages\n", "merges\n", "stops\n"
+STREAMS = "streams\n"
 
 
 def is_stale(program):

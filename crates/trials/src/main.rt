@@ -1,13 +1,18 @@
 //! Trials of the office over memory. A line of standard input says which come after it: `requests` for requests over HTTP, up to a line
-//! `end`; `messages` for what each fault and refusal prints, which need nothing more; `merges` for merges of lists that readers give in pieces, or
+//! `end`; `streams` for lines and requests of which a read or a write fails, up to one too;
+//! `messages` for what each fault and refusal prints, which need nothing more; `merges` for merges of lists that readers give in pieces, or
 //! `stops` for stops within a call of the disk, each up to the end of the input.
 #![tactic(auto)]
 
+mod cut;
+mod frames;
 mod merges;
 mod messages;
 mod reader;
 mod requests;
 mod stops;
+mod streams;
+mod writer;
 
 use anyhow::{Result, bail};
 use std::io::{self, BufRead, BufReader, BufWriter};
@@ -22,6 +27,7 @@ fn main(rt: HostRuntime) -> Result<()> {
         }
         match line.trim_end() {
             "requests" => requests::answer_all(rt.alloc(), &mut input, &mut output)?,
+            "streams" => streams::answer_all(rt.alloc(), &mut input, &mut output)?,
             "messages" => messages::show_all(rt.alloc(), &mut output)?,
             "merges" => merges::make_all(&rt, rt.alloc(), &mut input, &mut output)?,
             "stops" => stops::make_all(&rt, rt.alloc(), &mut input, &mut output)?,

@@ -10,6 +10,7 @@
 //! that of the list at PLACE, where Sources is at 0, fails once after READS reads. To standard output go the answer, each row of the
 //! office that is found in its files, and a line `end`.
 
+use crate::cut::{Cut, Failure};
 use crate::reader::CutReader;
 use crate::stops::disk::Images;
 use crate::stops::rows;
@@ -65,12 +66,17 @@ impl Pieces {
         place: usize,
         bytes: &'a [u8],
     ) -> Result<BufReader<CutReader<'a>>> {
-        let reads = if place == self.place {
+        let calls = if place == self.place {
             self.reads
         } else {
             usize::MAX
         };
-        Ok(BufReader::new(alloc, CutReader::new(bytes, self.step, reads))?)
+        let cut = Cut {
+            step: self.step,
+            calls,
+            failure: Failure::Interrupted,
+        };
+        Ok(BufReader::new(alloc, CutReader::new(bytes, cut))?)
     }
 }
 

@@ -1,24 +1,19 @@
-//! Answers requests by an office over tables in memory, with no sockets. The input has frames: a decimal length, a line feed and so many
-//! bytes. The first three are the Sources list and the Packages lists of amd64 and arm64 that the office begins with, and each other is all
-//! that a client sends on a connection. Up to four numbers may follow the length, each after a blank: how many bytes a read gives and a
-//! write takes at most, how many reads give bytes before one fails, how many writes take bytes before one fails, and 0 if that write takes no
-//! byte in place of an error. Without them all bytes that fit are read and written, and no read or write fails. What failed once works
-//! again. For each request a line goes to the output, and after it what is answered: how the exchange ended, the status or 0 for none, and
-//! how many bytes were answered, as in `answered 200 145`. A line `end` ends the requests.
+//! Answers requests by an office over tables in memory, with no sockets. The input has [frames](crate::frames). The first three are the
+//! Sources list and the Packages lists of amd64 and arm64 that the office begins with, and each other is all that a client sends on a
+//! connection. For each request a line goes to the output, and after it what is answered: how the exchange ended, the status or 0 for none,
+//! and how many bytes were answered, as in `answered 200 145`. A line `end` ends the requests.
 
-mod frames;
-mod opening;
-mod writer;
+pub(crate) mod opening;
 
+use crate::frames::{self, Frame};
 use crate::reader::CutReader;
+use crate::writer::CutWriter;
 use anyhow::{Context, Result};
-use frames::Frame;
 use opening::MemoryOffice;
 use std::alloc::Global;
 use std::io::{BufRead, Write};
 use wb_api::{Routes, Served, serve_one};
 use wb_streams::{WatchedReader, WatchedWriter};
-use writer::CutWriter;
 
 /// Answers the requests of the input, up to its end or a line `end`.
 pub(crate) fn answer_all<R: BufRead + Drop, W: Write + Drop>(
@@ -75,12 +70,8 @@ fn answered(
     office: &mut MemoryOffice,
     request: &Frame,
 ) -> (Served, Vec<u8>) {
-    let mut answer = CutWriter::new(alloc, request);
-    let mut reader = WatchedReader::new(CutReader::new(
-        &request.bytes,
-        request.step,
-        request.reads,
-    ));
+    let mut answer = CutWriter::new(alloc, request.writing);
+    let mut reader = WatchedReader::new(CutReader::new(&request.bytes, request.reading));
     let mut writer = WatchedWriter::new(&mut answer);
     let served = serve_one(alloc, routes, office, &mut reader, &mut writer);
     drop(writer);
@@ -88,7 +79,7 @@ fn answered(
 }
 
 /// The word for how an exchange ended, and the status of what was answered.
-fn word_of(served: Served) -> (&'static str, u16) {
+pub(crate) fn word_of(served: Served) -> (&'static str, u16) {
     match served {
         Served::Nothing => ("nothing", 0),
         Served::ReadFailed => ("read-failed", 0),

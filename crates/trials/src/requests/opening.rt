@@ -24,7 +24,7 @@ const BUILDERS: [(&str, &str); 4] = [
 pub(crate) type MemoryOffice = Office<FileStore<Memory>>;
 
 /// An empty office.
-fn opened(alloc: Global) -> Result<MemoryOffice> {
+pub(crate) fn opened(alloc: Global) -> Result<MemoryOffice> {
     let files = Files {
         log: Memory::new(alloc),
         db: Memory::new(alloc),
