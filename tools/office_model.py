@@ -1,9 +1,11 @@
-"""A second reading of docs/PROTOCOL.md, for tools/test_requests: an office of two architectures, with the commands and the queries that HTTP has.
-It answers each with a status and an object. It is written from the page and shares nothing with the program.
+"""A second reading of docs/PROTOCOL.md, for tools/test_requests: an office of two architectures, with the commands and the queries that HTTP has,
+and merges of lists that were read. It answers each with a status and an object. It is written from the page and shares nothing with the program.
+tools/line_model.py makes of it an office that answers lines.
 
 What it does not read is relations in general. For a text that RELATIONS does not have it takes what the program answered of that text alone, as
 long as the page has such an answer, and keeps what waits are printed open until an answer shows them.
 """
+import copy
 import re
 from dataclasses import dataclass
 
@@ -180,10 +182,78 @@ class Record:
         return {key: getattr(self, key) for key in keys}
 
 
+@dataclass
+class Kept(Record):
+    """A record that remembers whether anything of it was ever built, which a merge may find out."""
+
+    was_built: bool = False
+
+    @property
+    def earlier(self):
+        return self.was_built
+
+
+@dataclass(frozen=True)
+class Listed:
+    """What a Sources list says of a source package, for one architecture."""
+
+    version: str
+    priority: str
+    section: str
+    depends: str | None = ""
+
+
+def order(version):
+    """A key by which the order of versions is that of the policy."""
+    epoch, upstream, revision = parts_of(version)
+    return [epoch, order_of(upstream), order_of(revision)]
+
+
+def merged(arch, name, old, listed, built, is_met):
+    """The record after a merge, none if the package is not listed. What is built of it is a version and the number of a rebuild, or None."""
+    if listed is None:
+        return None
+    is_built = built is not None and order(built[0]) >= order(listed.version)
+    is_of_build = built is not None and order(built[0]) == order(listed.version)
+    if old is None:
+        new = Kept(arch, name, listed.version, listed.priority, listed.section, "Installed" if is_built else "Needs-Build")
+        new.number = built[1] if is_of_build else 0
+        new.depends, new.was_built = listed.depends, built is not None
+        return new
+    new = copy.copy(old)
+    if order(old.version) > order(listed.version):
+        return new
+    new.priority, new.section, new.depends = listed.priority, listed.section, listed.depends
+    if order(old.version) < order(listed.version):
+        new.version, new.message, new.holder, new.take, new.number = listed.version, "", None, None, 0
+        if old.state != "Not-For-Us":
+            new.state = "Installed" if is_built else "Needs-Build"
+    elif old.state != "Not-For-Us":
+        new.state = state_of_equal(old, built, is_met)
+    if new.state == "Installed" and is_of_build:
+        new.number = built[1]
+    if new.state not in HELD:
+        new.holder = new.take = None
+    new.waits = new.waits if new.state == "Dep-Wait" else ""
+    new.note = new.note if new.state == old.state else ""
+    new.was_built = old.earlier or built is not None or new.state == "Installed"
+    return new
+
+
+def state_of_equal(old, built, is_met):
+    """The state of a record whose version is the list's."""
+    if built and (order(built[0]) > order(old.version) or (order(built[0]) == order(old.version) and built[1] >= old.number)):
+        return "Installed"
+    if old.state == "Installed" or (old.state == "Dep-Wait" and is_met(old.waits)):
+        return "Needs-Build"
+    return old.state
+
+
 class Office:
     """The office after its first commands: two architectures, four pairs of a builder and an architecture, and a merge."""
 
     def __init__(self, records):
+        self.archs, self.builders = ARCHS, BUILDERS
         self.accepted, self.handed = 7, 0
         self.records = {(record.arch, record.source): record for record in records}
         self.said = None
@@ -205,8 +275,8 @@ class Office:
         return record
 
     def check_builder(self, body):
-        check(body["builder"] in BUILDERS, "UnknownBuilder")
-        check(body["arch"] in BUILDERS[body["builder"]], "WrongArch")
+        check(body["builder"] in self.builders, "UnknownBuilder")
+        check(body["arch"] in self.builders[body["builder"]], "WrongArch")
 
     def relations_of(self, text):
         """What is printed of the relations; None if it is not known."""
@@ -238,7 +308,7 @@ class Office:
         text = next((body[key] for key in ("note", "reason", "message") if key in body), "")
         check(len(text.encode()) <= 1000, "TextTooLong")
         report = lines_of(body["text"]) if "text" in body else {}
-        check("arch" not in body or body["arch"] in ARCHS, "UnknownArch")
+        check("arch" not in body or body["arch"] in self.archs, "UnknownArch")
         if name == "report":
             return self.take_report(body["arch"], report)
         if "builder" in body:
@@ -298,6 +368,19 @@ class Office:
         check(waiting, "QueueEmpty")
         return self.hand_out("next", min(waiting, key=Record.place), body["builder"])
 
+    def merge_part(self, arch, sources, built, is_met):
+        """Merges what was read of the lists of an architecture, and answers with the part's counts: what the list says of each source package,
+        what is built of it, and whether waits are met."""
+        counts = {"added": 0, "arch": arch, "changed": 0, "kept": 0, "removed": 0}
+        for name in sorted({key[1] for key in self.records if key[0] == arch} | set(sources)):
+            old = self.records.pop((arch, name), None)
+            new = merged(arch, name, old, sources.get(name), built.get(name), is_met)
+            if new:
+                self.records[arch, name] = new
+            if old or new:
+                counts["added" if not old else "removed" if not new else "kept" if old == new else "changed"] += 1
+        return counts
+
     # -- queries
 
     def query(self, name, parts, said):
@@ -310,7 +393,7 @@ class Office:
 
     def check_subject(self, arch, source=None):
         check(FORMS["arch"].match(arch) and (source is None or FORMS["source"].match(source)), "BadName")
-        check(arch in ARCHS, "UnknownArch")
+        check(arch in self.archs, "UnknownArch")
         check(source is None or (arch, source) in self.records, "UnknownSource")
 
     def shown(self, records):
@@ -330,7 +413,7 @@ class Office:
 
     def query_mine(self, builder):
         check(FORMS["builder"].match(builder), "BadName")
-        check(builder in BUILDERS, "UnknownBuilder")
+        check(builder in self.builders, "UnknownBuilder")
         held = sorted((record for record in self.records.values() if record.holder == builder), key=lambda record: record.take)
         return {"builder": builder, "records": self.shown(held)}
 

@@ -8,7 +8,7 @@ from dataclasses import dataclass, field
 from pathlib import Path
 from typing import Any
 
-from office_model import ARCHS, BUILDERS, Office, Record, Refused, order_of, parts_of
+from office_model import ARCHS, BUILDERS, Kept, Listed, Office, Record, Refused, order
 from store_runs import copied_database
 
 # The states by their numbers in the file.
@@ -26,22 +26,6 @@ MET = {
 ARCHIVE = {"libz": (1, 2), "debhelper": (12, 13, 14), "liba": (1, 2), "libb": (1,), "gcc-13": (13,), "clang": (19,)}
 
 
-@dataclass
-class Kept(Record):
-    """A record that remembers whether anything of it was ever built, which a merge may find out."""
-
-    was_built: bool = False
-
-    @property
-    def earlier(self) -> bool:
-        return self.was_built
-
-
-def order(version: str) -> list[Any]:
-    epoch, upstream, revision = parts_of(version)
-    return [epoch, order_of(upstream), order_of(revision)]
-
-
 # ---- merges
 
 
@@ -53,6 +37,9 @@ class Lists:
     sources: dict[str, tuple[str, str, str]]
     built: dict[str, dict[str, tuple[str, int]]]
     available: dict[str, int]
+
+    def meets(self, waits: str) -> bool:
+        return MET.get(waits, lambda _: False)(self.available)
 
     def write(self, folder: Path) -> None:
         text = "".join(
@@ -100,62 +87,10 @@ class Soaked(Office):
 
     def merge(self, lists: Lists) -> dict[str, Any]:
         """The answer to a merge of all architectures, which is carried out by the table of docs/PROTOCOL.md."""
-        parts = []
-        for arch in ARCHS:
-            counts = {"added": 0, "arch": arch, "changed": 0, "kept": 0, "removed": 0}
-            for name in sorted({key[1] for key in self.records if key[0] == arch} | set(lists.sources)):
-                old = self.records.get((arch, name))
-                new = merged(arch, name, old, lists)
-                if new:
-                    self.records[arch, name] = new
-                elif old:
-                    del self.records[arch, name]
-                if old or new:
-                    counts["added" if not old else "removed" if not new else "kept" if old == new else "changed"] += 1
-            parts.append(counts)
+        sources = {name: Listed(*entry) for name, entry in lists.sources.items()}
+        parts = [self.merge_part(arch, sources, lists.built[arch], lists.meets) for arch in ARCHS]
         self.accepted += 1
         return {"accepted": self.accepted, "ok": "merge", "parts": parts}
-
-
-def merged(arch: str, name: str, old: Record | None, lists: Lists) -> Record | None:
-    """The record after a merge, none if the package is not listed."""
-    if name not in lists.sources:
-        return None
-    version, priority, section = lists.sources[name]
-    built = lists.built[arch].get(name)
-    is_built = built is not None and order(built[0]) >= order(version)
-    number = built[1] if built and order(built[0]) == order(version) else 0
-    if old is None:
-        new = Kept(arch, name, version, priority, section, "Installed" if is_built else "Needs-Build", number if is_built else 0)
-        new.was_built = built is not None
-        return new
-    if order(old.version) > order(version):
-        return copy.copy(old)
-    new = copy.copy(old)
-    new.priority, new.section = priority, section
-    if order(old.version) < order(version):
-        new.version, new.message, new.holder, new.take, new.number = version, "", None, None, 0
-        if old.state != "Not-For-Us":
-            new.state = "Installed" if is_built else "Needs-Build"
-    elif old.state != "Not-For-Us":
-        new.state = state_of_equal(old, built, lists)
-    if new.state == "Installed" and built and order(built[0]) == order(version):
-        new.number = built[1]
-    if new.state not in ("Building", "Built", "Uploaded"):
-        new.holder = new.take = None
-    new.waits = new.waits if new.state == "Dep-Wait" else ""
-    new.note = new.note if new.state == old.state else ""
-    new.was_built = bool(getattr(old, "was_built", False) or built is not None or new.state == "Installed")
-    return new
-
-
-def state_of_equal(old: Record, built: tuple[str, int] | None, lists: Lists) -> str:
-    """The state of a record whose version is the list's."""
-    if built and (order(built[0]) > order(old.version) or (order(built[0]) == order(old.version) and built[1] >= old.number)):
-        return "Installed"
-    if old.state == "Installed" or (old.state == "Dep-Wait" and MET.get(old.waits, lambda _: False)(lists.available)):
-        return "Needs-Build"
-    return old.state
 
 
 # ---- what was sent and answered
