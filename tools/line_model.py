@@ -2,8 +2,8 @@
 lists and reports in files of a folder, and the rows of its tables as the trials show them. It is written from docs/PROTOCOL.md and shares nothing
 with the program.
 
-It reads lists and relations that are well-formed, and of faults in lists those of a field that is missing and of a version or a package's name that is
-malformed. Anything else of these ends with a ValueError, and never with an answer.
+It reads lists whose lines are well-formed, with the faults of their fields, and relations that are well-formed. Others of these end with a
+ValueError, and never with an answer.
 """
 import copy
 import json
@@ -34,6 +34,7 @@ ARGUMENTS = {
     "build-priority": "arch source version value",
 }
 NUMBERS = {"take", "number", "value", "after"}
+QUERIES = {"queue": "queue", "summary": "summary", "by-state": "state", "item": "item", "depends": "depends", "mine": "mine"}
 LINE_FORMS = {"word": re.compile(r"(?!any\Z)[a-z0-9]{1,20}\Z"), "field": re.compile(r"[!-~]{1,64}\Z")}
 
 
@@ -116,8 +117,10 @@ def paragraphs_of(text):
     found, fields, last = [], {}, None
     for line in [*text.split("\n"), ""]:
         if not line.strip(" \t"):
-            found, fields = found + [fields] * bool(fields), {}
+            found, fields, last = found + [fields] * bool(fields), {}, None
         elif line[0] in " \t":
+            if last is None:
+                raise ValueError(f"the model does not read the line {line}")
             fields[last] = f"{fields[last]} {line.strip()}"
         else:
             last, colon, value = line.partition(":")
@@ -137,15 +140,26 @@ def check_paragraphs(which, paragraphs):
 
         for field in ("Package", "Version", "Architecture"):
             test(field.lower() in fields, "Missing", field)
-            if field != "Architecture":
-                test(is_good(field, fields[field.lower()]), "BadValue", field)
+            test(is_good(field, fields[field.lower()]), "BadValue", field)
+        for field in {"Sources": ["Priority", "Section"], "Packages": ["Source"]}[which]:
+            test(field.lower() not in fields or is_good(field, fields[field.lower()]), "BadValue", field)
 
 
 def is_good(field, value):
-    if field == "Package":
-        return FORMS["source"].match(value)
+    """Whether a field has its form."""
+    if field == "Architecture":
+        return value != ""
+    if field in ("Priority", "Section"):
+        return value == "" or LINE_FORMS["field"].match(value)
+    if field == "Version":
+        return is_version(value)
+    name, bracket, version = value.partition(" (") if field == "Source" else (value, "", "")
+    return FORMS["source"].match(name) and (not bracket or version.endswith(")") and is_version(version[:-1]))
+
+
+def is_version(text):
     try:
-        return parts_of(value)
+        return parts_of(text)
     except Refused:
         return None
 
@@ -201,11 +215,11 @@ class LineOffice(Office):
         return other
 
     def text(self, name):
-        return self.files[name] if isinstance(self.files, dict) else (Path(self.files) / name).read_text(encoding="utf-8")
+        return self.files[name] if isinstance(self.files, dict) else (Path(self.files) / name).read_bytes().decode()
 
     def answer(self, line):
         """The object that is answered to a line."""
-        name, *words = line.split()
+        name, *words = re.findall("[^ \t]+", line)
         try:
             return getattr(self, f"line_{name.replace('-', '_')}", lambda *words: self.ask(name, words))(*words)
         except Refused as why:
@@ -213,6 +227,16 @@ class LineOffice(Office):
 
     def answers(self, lines):
         return [self.answer(line) for line in lines]
+
+    def looked_up(self, line):
+        """The object that is answered to a query."""
+        name, *words = line.split()
+        return self.query(QUERIES[name], words, None)[1]
+
+    def count(self, lines):
+        """How many commands are accepted after these lines."""
+        self.answers(lines)
+        return self.accepted
 
     def ask(self, name, words):
         """What is answered to a command that HTTP has too."""

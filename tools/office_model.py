@@ -96,7 +96,7 @@ def order_of(text):
         key.append(int(digits or "0"))
     while len(key) > 1 and key[-2:] == [[0], 0]:
         del key[-2:]
-    return key
+    return [*key, [0]]
 
 
 def are_equal(one, other):

@@ -4,22 +4,31 @@
 //!
 //! ```text
 //! run LINES LOG DB LOG-LEFT DB-LEFT      opens the office, answers the lines of the file LINES, and gives the office up
+//! session LINES LOG DB LOG-LEFT DB-LEFT  has an office live once with the commands of the lines, none of which is a merge, by `session`
 //! open LOG DB LOG-LEFT DB-LEFT           opens the office, and gives it up
 //! close LOG DB LOG-LEFT DB-LEFT          opens the office, and closes it
 //! keep                                   at the end: the files that are left are those of the trials from here on
-//! lives LINES..                          alone: over new files, an office lives once for each file of lines, none of which is a merge
+//! lives LOG DB LINES..                   alone: over new files, an office lives once for each file of lines, none of which is a merge
 //! ```
 //!
-//! LOG and DB are how many calls the log and the database take before each later call fails and changes nothing. LOG-LEFT and DB-LEFT are
+//! LOG and DB are how many calls the log and the database take before each later call fails and changes nothing; of lives the files of the
+//! second one alone stop so, and a power cut follows each life, which hands them out. LOG-LEFT and DB-LEFT are
 //! `kept` if the file then holds all that was written, as after a kill, and `lost` if it holds what was synced, as a power cut may
 //! leave it. To standard output go the answers; `fault NAME` if an opening or a closing fails; and, unless the files are kept, each row
 //! of the office that is found in them at the end. The last line of a trial is `end`. A run whose office is not opened ends the program.
-//! What is not synced at the end of a life is lost.
+//!
+//! A session or a life whose opening fails, or whose office is open and is not closed, gives no files back: then `gone` stands for the rows, and
+//! the trial ends there. Of lives go to standard output `opened N` before the answers of each life, with the count of accepted commands that its
+//! opening found; after the lives `cut N` for each power cut, with the count in a copy of the files that it handed back, or `cut none` if that could not be
+//! opened, and `left N`, how many cuts are left. What is not synced at the end of a life is lost.
 
+mod commands;
 pub(crate) mod disk;
 mod lists;
 mod lives;
+mod power;
 pub(crate) mod rows;
+mod session;
 pub(crate) mod stage;
 pub(crate) mod work;
 
@@ -43,8 +52,8 @@ pub(crate) fn make_all<F: FileHandle + AllocGlobal, R: BufRead + Drop, W: Write>
         if input.read_line(&mut line)? == 0 {
             break;
         }
-        if let Some(names) = line.strip_prefix("lives ") {
-            lives::show(rt, alloc, names, output)?;
+        if let Some(words) = line.strip_prefix("lives ") {
+            lives::show(rt, alloc, words, output)?;
         } else if let Some(images) = stopped(rt, alloc, &kept, &line, output)? {
             kept = images;
         }
@@ -63,7 +72,10 @@ fn stopped<F: FileHandle + AllocGlobal, W: Write>(
     output: &mut W,
 ) -> Result<Option<Images>> {
     let (stages, keeps) = stage::stages_of(alloc, line)?;
-    let images = carry_out(rt, alloc, kept, &stages, output)?;
+    let Some(images) = carry_out(rt, alloc, kept, &stages, output)? else {
+        writeln!(output, "gone")?;
+        return Ok(None);
+    };
     if keeps {
         return Ok(Some(images));
     }
@@ -71,17 +83,20 @@ fn stopped<F: FileHandle + AllocGlobal, W: Write>(
     Ok(None)
 }
 
-/// What the files hold after these stages.
+/// What the files hold after these stages; none if one of them did not give them back.
 fn carry_out<F: FileHandle + AllocGlobal, W: Write>(
     rt: &F,
     alloc: Global,
     kept: &Images,
     stages: &[Stage<'_>],
     output: &mut W,
-) -> Result<Images> {
+) -> Result<Option<Images>> {
     let mut images = kept.copied()?;
     for stage in stages {
-        images = work::carry_out(rt, alloc, &images, stage, output)?;
+        match work::carry_out(rt, alloc, &images, stage, output)? {
+            Some(left) => images = left,
+            None => return Ok(None),
+        }
     }
-    Ok(images)
+    Ok(Some(images))
 }

@@ -1,5 +1,9 @@
 //! The two files in memory.
 
+ghost use Rattle.std.specs.Prelude.{◌≡◌, ℕ, List, IsTrue, IfOk};
+ghost use Rattle.sqlite_disk.specs.Disk.{Only};
+ghost use Rattle.sqlite_disk.specs.Memory.{memory_bytes, memory_is_usable};
+
 use crate::stops::stage::Stop;
 use sqlite::Files;
 use sqlite_disk::{Crash, Disk, Fuse, Memory};
@@ -46,7 +50,7 @@ impl Images {
     }
 
     /// What the files hold.
-    pub(crate) fn of(alloc: Global, files: &Files<Memory>) -> Result<Images, AllocError> {
+    pub(crate) fn of<D: Fused>(alloc: Global, files: &Files<D>) -> Result<Images, AllocError> {
         let mut images = Images::none(alloc);
         images.log.extend_from_slice(files.log.bytes())?;
         images.db.extend_from_slice(files.db.bytes())?;
@@ -67,12 +71,48 @@ impl Images {
     }
 }
 
+/// A file that can be made to stop.
+pub(crate) trait Fused: Crash {
+    /// What the file holds.
+    fn bytes(&self) -> &[u8];
+
+    /// A file that holds the same, synced, and takes so many calls; or the file as it is, if there is no memory.
+    fn fused(self, alloc: Global, calls: u64) -> Self
+        requires usable { IsTrue (Self.Disk.is_usable self) }
+        ensures fewer { (content : List ℕ) → Self.Disk.may_leave result content → Self.Disk.may_leave self content }
+        ensures clean { IsTrue (Self.Disk.is_clean result) → IsTrue (Self.Disk.is_clean self) }
+        ensures usable { IsTrue (Self.Disk.is_usable result) };
+}
+
+impl Fused for Stopping {
+    fn bytes(&self) -> &[u8] {
+        self.inner().bytes()
+    }
+
+    fn fused(self, alloc: Global, calls: u64) -> Stopping {
+        if let Ok(disk) = memory_of(alloc, self.inner().bytes()) {
+            if disk.bytes() == self.inner().bytes() {
+                return Fuse::new(disk, calls);
+            }
+        }
+        self
+    }
+}
+
 /// A file that holds these bytes, synced, and takes so many calls.
 fn disk_of(alloc: Global, bytes: &[u8], calls: u64) -> io::Result<Stopping> {
+    Ok(Fuse::new(memory_of(alloc, bytes)?, calls))
+}
+
+/// A file that holds these bytes, synced.
+fn memory_of(alloc: Global, bytes: &[u8]) -> io::Result<Memory>
+    ensures usable { IfOk result (λ disk. IsTrue (memory_is_usable disk)) }
+    ensures synced { IfOk result (λ disk. Only (memory_bytes disk) (⟦<Memory as Disk>⟧.may_leave disk)) }
+{
     let mut disk = Memory::new(alloc);
     disk.write_at(0, bytes)?;
     disk.sync()?;
-    Ok(Fuse::new(disk, calls))
+    Ok(disk)
 }
 
 /// What a file holds after its stop.

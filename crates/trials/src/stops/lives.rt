@@ -1,57 +1,81 @@
 //! The lives of an office over files in memory, one after another, with a power cut after each.
 
-use crate::stops::disk::Images;
+ghost use Rattle.std.specs.Prelude.{◌≤◌, length};
+
+use crate::stops::commands::{commands_of, show_outcomes};
+use crate::stops::disk::{Images, Stopping};
+use crate::stops::power::{Calls, Watching};
 use crate::stops::rows;
+use crate::stops::stage::number_of;
+use crate::stops::work::SEED;
 use anyhow::{Result, anyhow, bail};
 use deb_text::Items;
-use sqlite::{Files, Options};
-use sqlite_disk::{Disk, Memory};
+use sqlite::Options;
+use sqlite_disk::Disk;
 use std::alloc::Global;
 use std::io::Write;
 use std::rt::Files as FileHandle;
-use std::{fs, str};
-use wb_api::{refusal_json, reply_json};
-use wb_office::{Crashes, Found, LivesEnd, Outcome, lives};
+use wb_office::{Found, LivesEnd, lives};
 use wb_states::Command;
-use wb_words::{Invocation, invocation_of};
 
-/// Has an office live once for each file of lines that is named, over new files, and writes what the commands of each life
-/// were answered, and the rows that are found after the last. At the end of each life what was not synced is lost.
+/// Has an office live once for each file of lines that is named, over new files, and writes what is found: for each life what its
+/// opening found and its commands were answered, for each cut what the power found, and the rows after the last. At the end of
+/// each life what was not synced is lost. The first two words say after how many calls the files of the second life stop.
 pub(crate) fn show<F: FileHandle + AllocGlobal, W: Write>(
     rt: &F,
     alloc: Global,
-    names: &str,
+    words: &str,
     output: &mut W,
 ) -> Result<()> {
+    let mut words = words.split_whitespace();
+    let log = number_of(words.next())?;
+    let db = number_of(words.next())?;
     let mut commands = Vec::new(alloc);
-    for name in names.split_whitespace() {
+    for name in words {
         commands.push(commands_of(rt, alloc, name)?)?;
     }
-    let LivesEnd { found, files } = lived(alloc, &commands)?;
-    show_lives(alloc, &commands, found.as_slice(), output)?;
-    let Some(files) = files else {
-        bail!("a closing failed");
-    };
-    let images = Images::of(alloc, &files)?;
-    rows::show(alloc, &images, output)
+    show_all(alloc, &commands, Calls { log, db }, output)
+}
+
+/// The same, with these commands.
+fn show_all<W: Write>(
+    alloc: Global,
+    commands: &[Items<Command>],
+    calls: Calls,
+    output: &mut W,
+) -> Result<()> {
+    let mut power = Watching::new(alloc, commands.len() as u64, calls);
+    let LivesEnd { found, files } = lived(alloc, &mut power, commands)?;
+    show_lives(alloc, commands, found.as_slice(), output)?;
+    show_power(&power, output)?;
+    match files {
+        Some(files) => rows::show(alloc, &Images::of(alloc, &files)?, output),
+        None => {
+            writeln!(output, "gone")?;
+            Ok(())
+        }
+    }
 }
 
 /// What lives with these commands end with, over new files.
-fn lived(alloc: Global, commands: &[Items<Command>]) -> Result<LivesEnd<Memory>> {
-    let files = Files {
-        log: Memory::new(alloc),
-        db: Memory::new(alloc),
-    };
-    let mut power = Crashes {
-        left: commands.len() as u64,
-    };
-    match lives(alloc, files, Options::new(1), &mut power, commands) {
+fn lived(
+    alloc: Global,
+    power: &mut Watching,
+    commands: &[Items<Command>],
+) -> Result<LivesEnd<Stopping>>
+    requires cuts { length commands.now ≤ power.old.crashes.left }
+{
+    let files = Images::none(alloc).files(alloc, u64::MAX, u64::MAX)?;
+    if !files.log.may_be_used() || !files.db.may_be_used() {
+        bail!("a file cannot be used");
+    }
+    match lives(alloc, files, Options::new(SEED), power, commands) {
         Ok(end) => Ok(end),
         Err(fault) => Err(anyhow!("the lives failed: {fault}")),
     }
 }
 
-/// Writes what the commands of each life were answered.
+/// Writes what the openings of lives found, and what the commands of each life were answered.
 fn show_lives<W: Write>(
     alloc: Global,
     commands: &[Items<Command>],
@@ -60,64 +84,24 @@ fn show_lives<W: Write>(
 ) -> Result<()> {
     for (life, one) in commands.iter().zip(found) {
         match one {
-            Found::Opened { outcomes, .. } => {
+            Found::Opened { accepted, outcomes, .. } => {
+                writeln!(output, "opened {accepted}")?;
                 show_outcomes(alloc, life.as_slice(), outcomes.as_slice(), output)?;
             }
-            Found::Refused(fault) => bail!("an opening failed: {fault}"),
+            Found::Refused(fault) => writeln!(output, "fault {}", fault.name())?,
         }
     }
     Ok(())
 }
 
-/// The commands that the lines of a file ask for, of which none is a merge.
-fn commands_of<F: FileHandle + AllocGlobal>(
-    rt: &F,
-    alloc: Global,
-    name: &str,
-) -> Result<Items<Command>> {
-    let bytes = fs::read(rt, name)?;
-    let mut commands = Items::new(alloc);
-    for line in str::from_utf8(&bytes)?.lines() {
-        commands.push(command_of(alloc, line)?)?;
+/// Writes what the power found after each cut, and how many cuts are left.
+fn show_power<W: Write>(power: &Watching, output: &mut W) -> Result<()> {
+    for found in power.found() {
+        match found {
+            Some(accepted) => writeln!(output, "cut {accepted}")?,
+            None => writeln!(output, "cut none")?,
+        }
     }
-    Ok(commands)
-}
-
-/// The command that a line asks for.
-fn command_of(alloc: Global, line: &str) -> Result<Command> {
-    let mut words = Vec::new(alloc);
-    for word in line.split_whitespace() {
-        words.push(word)?;
-    }
-    match invocation_of(alloc, &words) {
-        Ok(Invocation::Command { command }) => Ok(command),
-        _ => bail!("a line asks for no command, or for a merge"),
-    }
-}
-
-/// Writes what the commands of a life were answered.
-fn show_outcomes<W: Write>(
-    alloc: Global,
-    commands: &[Command],
-    outcomes: &[Outcome],
-    output: &mut W,
-) -> Result<()> {
-    for (command, outcome) in commands.iter().zip(outcomes) {
-        show_outcome(alloc, command.name(), outcome, output)?;
-    }
-    Ok(())
-}
-
-/// Writes what a command of this name was answered.
-fn show_outcome<W: Write>(
-    alloc: Global,
-    name: &str,
-    outcome: &Outcome,
-    output: &mut W,
-) -> Result<()> {
-    match outcome {
-        Ok(reply) => writeln!(output, "{}", reply_json(alloc, name, reply)?)?,
-        Err(refusal) => writeln!(output, "{}", refusal_json(alloc, refusal))?,
-    }
+    writeln!(output, "left {}", power.cuts_left())?;
     Ok(())
 }

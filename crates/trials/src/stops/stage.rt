@@ -9,6 +9,8 @@ use std::str::SplitWhitespace;
 pub(crate) enum Work<'a> {
     /// It is opened, answers the lines of the file of this name, and is given up.
     Run(&'a str),
+    /// It lives once with the commands of the file of this name, by `session`.
+    Session(&'a str),
     /// It is opened, and given up.
     Open,
     /// It is opened, and closed.
@@ -40,10 +42,11 @@ pub(crate) fn stages_of<'a>(alloc: Global, line: &'a str) -> Result<(Vec<Stage<'
         let work = match words.next() {
             None => break,
             Some("run") => Work::Run(words.next().context("a run has no lines")?),
+            Some("session") => Work::Session(words.next().context("a session has no lines")?),
             Some("open") => Work::Open,
             Some("close") => Work::Close,
             Some("keep") => return Ok((stages, true)),
-            Some(_) => bail!("a stage begins with run, open, close or keep"),
+            Some(_) => bail!("a stage begins with run, session, open, close or keep"),
         };
         stages.push(stage_of(work, &mut words)?)?;
     }
@@ -68,8 +71,8 @@ fn stage_of<'a>(work: Work<'a>, words: &mut SplitWhitespace<'a>) -> Result<Stage
 }
 
 /// The number of calls that a word says.
-fn number_of(word: Option<&str>) -> Result<u64> {
-    word.context("a stage has two numbers of calls")?
+pub(crate) fn number_of(word: Option<&str>) -> Result<u64> {
+    word.context("two numbers of calls are wanted")?
         .parse::<u64>()
         .context("a number of calls is not decimal")
 }

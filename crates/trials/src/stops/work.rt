@@ -2,6 +2,7 @@
 
 use crate::stops::disk::{Images, Stopping};
 use crate::stops::lists::FileLists;
+use crate::stops::session;
 use crate::stops::stage::{Stage, Work};
 use anyhow::{Result, anyhow};
 use sqlite::{Connection, FileStore, Files, Options};
@@ -17,23 +18,27 @@ use wb_store::{fault_of, laws, opening_fault};
 use wb_streams::{WatchedReader, WatchedWriter};
 
 /// The salt of the log.
-const SEED: u64 = 1;
+pub(crate) const SEED: u64 = 1;
 
-/// What the files hold after a stage that begins with these.
+/// What the files hold after a stage that begins with these; none if they were not given back.
 pub(crate) fn carry_out<F: FileHandle + AllocGlobal, W: Write>(
     rt: &F,
     alloc: Global,
     images: &Images,
     stage: &Stage<'_>,
     output: &mut W,
-) -> Result<Images> {
+) -> Result<Option<Images>> {
     let files = images.files(alloc, stage.log.calls, stage.db.calls)?;
     let files = match stage.work {
-        Work::Run(name) => run(rt, alloc, files, name, output)?,
-        Work::Open => told(open(alloc, files, false)?, output)?,
-        Work::Close => told(open(alloc, files, true)?, output)?,
+        Work::Run(name) => Some(run(rt, alloc, files, name, output)?),
+        Work::Session(name) => session::run(rt, alloc, files, name, output)?,
+        Work::Open => Some(told(open(alloc, files, false)?, output)?),
+        Work::Close => Some(told(open(alloc, files, true)?, output)?),
     };
-    Ok(Images::left(alloc, files, stage.log, stage.db)?)
+    match files {
+        Some(files) => Ok(Some(Images::left(alloc, files, stage.log, stage.db)?)),
+        None => Ok(None),
+    }
 }
 
 /// Opens the office, answers the lines of a file, and gives the office up.
