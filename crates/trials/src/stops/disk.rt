@@ -1,6 +1,6 @@
 //! The two files in memory.
 
-ghost use Rattle.std.specs.Prelude.{◌≡◌, ℕ, List, IsTrue, IfOk};
+ghost use Rattle.std.specs.Prelude.{◌≡◌, ◌↔◌, ℕ, List, IsTrue, IfOk};
 ghost use Rattle.sqlite_disk.specs.Disk.{Only};
 ghost use Rattle.sqlite_disk.specs.Memory.{memory_bytes, memory_is_usable};
 
@@ -91,7 +91,7 @@ impl Fused for Stopping {
 
     fn fused(self, alloc: Global, calls: u64) -> Stopping {
         if let Ok(disk) = memory_of(alloc, self.inner().bytes()) {
-            if disk.bytes() == self.inner().bytes() {
+            if are_same(disk.bytes(), self.inner().bytes()) {
                 return Fuse::new(disk, calls);
             }
         }
@@ -102,6 +102,13 @@ impl Fused for Stopping {
 /// A file that holds these bytes, synced, and takes so many calls.
 fn disk_of(alloc: Global, bytes: &[u8], calls: u64) -> io::Result<Stopping> {
     Ok(Fuse::new(memory_of(alloc, bytes)?, calls))
+}
+
+/// Whether two files hold the same.
+fn are_same(one: &[u8], other: &[u8]) -> bool
+    ensures value { IsTrue result ↔ (one.now ≡ other.now) }
+{
+    one == other
 }
 
 /// A file that holds these bytes, synced.

@@ -84,7 +84,11 @@ fn show_lives<W: Write>(
 ) -> Result<()> {
     for (life, one) in commands.iter().zip(found) {
         match one {
-            Found::Opened { accepted, outcomes, .. } => {
+            Found::Opened {
+                accepted,
+                outcomes,
+                ..
+            } => {
                 writeln!(output, "opened {accepted}")?;
                 show_outcomes(alloc, life.as_slice(), outcomes.as_slice(), output)?;
             }

@@ -38,9 +38,7 @@ impl Watching {
     {
         Watching {
             alloc,
-            crashes: Crashes {
-                left: cuts,
-            },
+            crashes: Crashes { left: cuts },
             stops: Some(stops),
             found: Vec::new(alloc),
         }
