@@ -1,7 +1,7 @@
-"""The program of crates/trials, which a test runs: a line on its standard input says what follows, `requests`, `streams`,
-`messages`, `merges` or `stops`.
+"""The programs of crates/trials and crates/allocations, which tests run. A line on the standard input of `trials` says what follows,
+`requests`, `streams`, `messages`, `merges` or `stops`.
 
-From the environment: TRIALS is the program, that of crates/trials where it is not set, which is then built if need be.
+From the environment: TRIALS and ALLOCATIONS are the programs, those of the crates where they are not set, which are then built if need be.
 """
 import os
 import subprocess
@@ -17,17 +17,18 @@ def is_stale(program):
     """Whether the program is missing, or older than a source of a crate on which it stands."""
     if not program.exists():
         return True
-    line = next(line for line in (ROOT / "crates.txt").read_text(encoding="utf-8").splitlines() if line.startswith("trials:"))
+    lines = (ROOT / "crates.txt").read_text(encoding="utf-8").splitlines()
+    line = next(line for line in lines if line.startswith(f"{program.name}:"))
     folders = [ROOT / "crates" / name / kind for name in line.replace(":", "").split() for kind in ("src", "specs", "proofs")]
     made = program.stat().st_mtime
     return any(path.stat().st_mtime > made for folder in folders if folder.exists() for path in [folder, *folder.rglob("*")])
 
 
-def path():
-    """The program's path."""
-    if "TRIALS" in os.environ:
-        return os.path.abspath(os.environ["TRIALS"])
-    found = ROOT / "crates" / "trials" / "out" / "trials"
+def path(name="trials"):
+    """The path of the program of this name."""
+    if name.upper() in os.environ:
+        return os.path.abspath(os.environ[name.upper()])
+    found = ROOT / "crates" / name / "out" / name
     if is_stale(found):
         print(f"{Path(sys.argv[0]).name}: building the program", file=sys.stderr)
         subprocess.run(["rt", "run"], cwd=found.parent.parent, stdin=subprocess.DEVNULL, stdout=subprocess.DEVNULL, check=True)
