@@ -9,14 +9,19 @@ from dataclasses import dataclass
 
 @dataclass(frozen=True)
 class Case:
-    """A call on texts. `takes` says whether it asks for memory at all."""
+    """A call on texts. `takes` says whether it asks for memory at all. What it answers to a refusal may have several forms."""
 
     name: str
     call: str
     texts: tuple
     ample: str
-    refused: str
+    refused: str | tuple
     takes: bool = True
+
+    def told(self):
+        """The answers to a refusal."""
+        forms = self.refused if isinstance(self.refused, tuple) else (self.refused,)
+        return [form.replace("{again}", self.ample) for form in forms]
 
 
 # ---- values, as the program prints them
@@ -403,6 +408,13 @@ WORDS = [
     Case("invocation_of_a_report", "words.invocation_of", ("report amd64 R",), ok(f"Report {{ arch: {text('amd64')}, file: {text('R')} }}"), MEMORY),
     Case("invocation_of_no_command", "words.invocation_of", ("built x",), "Err(NoCommand)", MEMORY),
     Case("invocation_of_an_unknown_word", "words.invocation_of", ("frob",), "Err(NoCommand)", MEMORY, takes=False),
+    Case(
+        "fault_of_a_number",
+        "words.fault_of",
+        ("built 1.5",),
+        ok(quoted("TAKE is 1.5, and has to be a whole number from 0 to 18446744073709551615")),
+        (ALLOC, ok(quoted("error: out of memory\n"))),
+    ),
     Case("start_of_a_run", "words.start_of", ("--store F run",), f"Run {{ store: {some(quoted('F'))}, journal: None }}", "OutOfMemory"),
     Case(
         "start_of_serving",

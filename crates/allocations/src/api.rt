@@ -135,8 +135,8 @@ fn short_answer(turn: Turn<'_>, office: &OfficePart) -> Result<Answer> {
             counts: one_waits(),
         }),
         _ => {
-            let first = office.all_of(&arch)?.pop();
-            Ok(Answer::Item(first.context("there is no record")?))
+            let mut records = office.all_of(&arch)?;
+            Ok(Answer::Item(records.pop().context("there is no record")?))
         }
     }
 }

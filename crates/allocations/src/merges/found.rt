@@ -68,7 +68,8 @@ fn binaries_of(turn: Turn<'_>, arch: &ArchWords) -> Result<Vec<BinaryRow>> {
 fn after(turn: Turn<'_>, arch: &ArchWords) -> Result<String> {
     let office = begun(turn)?;
     let source = name(turn, turn.text(1))?;
-    let current = office.get(&name(turn, "amd64")?, &source)?;
+    let arch_name = name(turn, "amd64")?;
+    let current = office.get(&arch_name, &source)?;
     let sources = sources_of(turn)?;
     let binaries = binaries_of(turn, arch)?;
     Ok(made(turn, current, &source, &sources, &binaries, arch))

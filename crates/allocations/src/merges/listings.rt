@@ -89,7 +89,8 @@ fn names(turn: Turn<'_>, listing: &Listing) -> String {
 fn after_merge(turn: Turn<'_>, listing: &Listing) -> Result<String> {
     let office = begun(turn)?;
     let source = name(turn, turn.text(1))?;
-    let current = office.get(&name(turn, "amd64")?, &source)?;
+    let arch_name = name(turn, "amd64")?;
+    let current = office.get(&arch_name, &source)?;
     Ok(made(turn, current, &source, listing))
 }
 
