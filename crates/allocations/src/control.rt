@@ -45,7 +45,10 @@ fn show(turn: Turn<'_>, found: Result<Option<Paragraph<'_>>, ControlFault>) -> R
 }
 
 /// The next paragraph that owns its text, or the fault.
-fn show_owned(turn: Turn<'_>, found: Result<Option<OwnedParagraph>, ControlFault>) -> Result<String> {
+fn show_owned(
+    turn: Turn<'_>,
+    found: Result<Option<OwnedParagraph>, ControlFault>,
+) -> Result<String> {
     let mut text = String::new(turn.alloc);
     match found {
         Ok(Some(paragraph)) => {

@@ -91,7 +91,5 @@ pub(crate) fn show(turn: Turn<'_>, office: &OfficePart) -> Result<String> {
     let records = turn.said(&office.all_of(&arch)?);
     let archs = turn.said(&office.archs_of(&builder)?);
     let counts = office.counts();
-    Ok(
-        format!(in turn.alloc; "{} {} {records} {archs}", counts.accepted, counts.handed)?,
-    )
+    Ok(format!(in turn.alloc; "{} {} {records} {archs}", counts.accepted, counts.handed)?)
 }

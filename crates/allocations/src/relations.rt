@@ -89,11 +89,7 @@ fn available(turn: Turn<'_>) -> Result<Available> {
 }
 
 /// Adds a package, and shows whether the relations are satisfied then; and whether it was added.
-fn added(
-    turn: Turn<'_>,
-    packages: &mut Available,
-    asked: &Relations,
-) -> Result<(String, bool)> {
+fn added(turn: Turn<'_>, packages: &mut Available, asked: &Relations) -> Result<(String, bool)> {
     let version = Version::parse(turn.alloc, turn.text(2))?;
     turn.begin();
     let found = packages.add(turn.text(1), version);

@@ -81,14 +81,15 @@ fn remove(turn: Turn<'_>, records: &mut Records, arch: &Text, source: &Text) -> 
 }
 
 /// Puts a copy of the record of hello.
-fn put_copy(
-    turn: Turn<'_>,
-    office: &OfficePart,
-    arch: &Text,
-    source: &Text,
-) -> Result<String> {
+fn put_copy(turn: Turn<'_>, office: &OfficePart, arch: &Text, source: &Text) -> Result<String> {
     let mut records = office.copy_records()?;
-    let first = put(turn, &mut records, arch, source, record_of(turn, office, "hello")?);
+    let first = put(
+        turn,
+        &mut records,
+        arch,
+        source,
+        record_of(turn, office, "hello")?,
+    );
     if !first.starts_with("(Err") {
         return Ok(first);
     }
@@ -98,12 +99,7 @@ fn put_copy(
 }
 
 /// Takes a record out of a copy.
-fn remove_copy(
-    turn: Turn<'_>,
-    office: &OfficePart,
-    arch: &Text,
-    source: &Text,
-) -> Result<String> {
+fn remove_copy(turn: Turn<'_>, office: &OfficePart, arch: &Text, source: &Text) -> Result<String> {
     let mut records = office.copy_records()?;
     let first = remove(turn, &mut records, arch, source);
     if !first.starts_with("(Err") {
