@@ -4,6 +4,7 @@ use crate::office::{begun, name, record_of};
 use crate::relations::{amd64, read};
 use crate::turn::Turn;
 use anyhow::{Result, bail};
+use std::alloc::AllocError;
 use wb_states::{Move, OsCpu, Record, build_text, move_record};
 
 /// What the call answers.
@@ -26,14 +27,14 @@ fn words_copy(turn: Turn<'_>) -> Result<String> {
         cpu: name(turn, turn.text(1))?,
     };
     turn.begin();
-    let found = words.clone();
+    let found: Result<OsCpu, AllocError> = words.clone();
     turn.end();
     Ok(turn.said(&found))
 }
 
 fn copy(turn: Turn<'_>, current: &Record) -> String {
     turn.begin();
-    let found = current.clone();
+    let found: Result<Record, AllocError> = current.clone();
     turn.end();
     turn.said(&found)
 }

@@ -4,6 +4,7 @@ use crate::turn::Turn;
 use anyhow::{Result, bail};
 use deb_text::{Items, Text};
 use deb_version::Version;
+use std::alloc::AllocError;
 
 /// What the call answers.
 pub(crate) fn answer(call: &str, turn: Turn<'_>) -> Result<String> {
@@ -26,7 +27,7 @@ fn version(turn: Turn<'_>) -> String {
 
 fn version_copy(turn: Turn<'_>, version: &Version) -> String {
     turn.begin();
-    let found = version.clone();
+    let found: Result<Version, AllocError> = version.clone();
     turn.end();
     turn.said(&found)
 }
@@ -40,7 +41,7 @@ fn copied(turn: Turn<'_>) -> String {
 
 fn copy(turn: Turn<'_>, text: &Text) -> String {
     turn.begin();
-    let found = text.clone();
+    let found: Result<Text, AllocError> = text.clone();
     turn.end();
     turn.said(&found)
 }
