@@ -176,8 +176,10 @@ MERGES = [
 
 # ---- streams, words and the interface
 
+WORDS_FOUND = ok(listed(map(quoted, ("next", "amd64", "b1"))))
 STREAMS = [
-    Case("words", "streams.words_in", ("next  amd64\tb1 ",), ok(listed(map(quoted, ("next", "amd64", "b1")))), ALLOC),
+    # A list that is collected asks a second time for what it was refused once, so one refusal need not be answered as one.
+    Case("words", "streams.words_in", ("next  amd64\tb1 ",), WORDS_FOUND, (ALLOC, WORDS_FOUND)),
     Case("words_of_a_blank_line", "streams.words_in", (" \t ",), "Ok([])", ALLOC, takes=False),
     Case("body", "streams.read_body", ("hel", "lo and more", "5"), "hello", "Memory"),
     Case("line", "streams.write_line", ("hello",), '(true, "hello\\n")', '(true, "hello\\n")'),
