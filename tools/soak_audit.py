@@ -99,7 +99,7 @@ class Soaked(Office):
 @dataclass
 class Sent:
     """A request: what it asked for, the greatest count that anybody had seen when it was sent, and what was answered: a status and an object, or
-    nothing. `before` is a count that the office had not passed when it answered."""
+    nothing. `before` is a count that the office had not passed when it answered, and `begun` the status of an answer that broke off."""
 
     name: str
     body: dict[str, Any] | list[str]
@@ -107,6 +107,7 @@ class Sent:
     status: int | None = None
     said: dict[str, Any] | None = None
     before: int | None = None
+    begun: int | None = None
 
     @property
     def is_command(self) -> bool:
@@ -121,8 +122,16 @@ class Sent:
 
     @property
     def is_doubtful(self) -> bool:
-        """Whether it is a command that may stand although it was not answered."""
-        return self.is_command and (self.said is None or self.said.get("refused") == "Store")
+        """Whether it is a command that may stand although it was not answered, or not whole: of an answer that broke off the status says
+        whether it was refused."""
+        if self.said is None:
+            return self.is_command and (self.begun is None or not 400 <= self.begun < 500)
+        return self.is_command and self.said.get("refused") == "Store"
+
+    @property
+    def must_stand(self) -> bool:
+        """Whether it is a command, no repeated assignment, of whose acceptance a client read the first bytes."""
+        return self.is_command and self.begun == 200 and self.name != "next"
 
     def __str__(self) -> str:
         return f"{self.name} {self.body} is answered {self.status} {self.said}"
@@ -185,7 +194,7 @@ class History:
                 if count <= one.after or count > rows.accepted:
                     raise Wrong(f"acknowledged and lost, or counted before it was sent ({one.after}, the file has {rows.accepted}): {one}")
                 self.answered[count] = one
-        self.doubtful = [one for one in sent if one.is_doubtful]
+        self.doubtful = sorted((one for one in sent if one.is_doubtful), key=lambda one: not one.must_stand)
 
     def fail(self, at: int, why: str) -> None:
         """Keeps why there is no order, of those that were tried the first that went furthest."""
@@ -240,6 +249,8 @@ def audit(office: Soaked, sent: list[Sent], folder: Path) -> Audit:
         if commands is None:
             raise Wrong(history.why)
         found.stood = sum(one.is_doubtful for one in commands)
+        lost = [one for one in history.doubtful if one.must_stand and not any(one is other for other in commands)]
+        found.faults += [f"it does not stand, though its answer began with status 200: {one}" for one in lost]
         found.faults += check_others(found.office, commands, [one for one in sent if not one.is_doubtful and one.accepted is None])
     except (Wrong, Refused) as why:
         found.faults.append(str(why))

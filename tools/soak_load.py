@@ -48,7 +48,8 @@ class Board:
         with self.lock:
             self.in_flight -= 1
             if said is None:
-                self.counts["requests without an answer"] += 1
+                one.begun = status
+                self.counts["requests without an answer" if status is None else "requests of which the answer broke off"] += 1
                 self.abandoned += 1
                 return
             one.before = self.seen + self.in_flight + self.abandoned
@@ -86,20 +87,23 @@ class Client:
         return one
 
     def ask(self, method: str, path: str, body: bytes | None = None) -> tuple[int | None, Any]:
-        """The status and the object of an answer; nothing if it did not come whole."""
-        link = http.client.HTTPConnection("127.0.0.1", self.board.port, timeout=WAIT)
+        """The status and the object of an answer; no object if it did not come whole, and no status if its first line did not."""
+        link, status = http.client.HTTPConnection("127.0.0.1", self.board.port, timeout=WAIT), None
         with contextlib.closing(link):
             try:
                 link.request(method, path, body)
                 answer = link.getresponse()
+                status = answer.status
                 data = answer.read()
             except (OSError, http.client.HTTPException):
                 time.sleep(0.01)
-                return None, None
+                return status, None
+        if answer.getheader("Content-Length") is None:
+            return status, None  # the head broke off: http.client takes the end of the input for that of the head
         try:
-            return answer.status, json.loads(data)
+            return status, json.loads(data)
         except ValueError:
-            self.board.fail(f"{method} {path} is answered {answer.status} with {data[:200]!r}")
+            self.board.fail(f"{method} {path} is answered {status} with {data[:200]!r}")
             return None, None
 
     def goes_on(self) -> bool:
