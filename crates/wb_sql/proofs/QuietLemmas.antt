@@ -17,7 +17,7 @@ use Rattle.sqlite_rules.proofs.ListLemmas.{has_kept, test_from, test_has}
 use Rattle.sqlite_rules.proofs.PlaceLemmas.{named_parent}
 use Rattle.wb_sql.specs.Changes.{does_nothing, refers_to_tree, never_acts_on}
 use Rattle.wb_sql.specs.Tables.{office, arch, builder, source_record, scratch_source, scratch_binary, office_schema}
-use Rattle.wb_sql.specs.Among.{HasTable, HasOffice, table_in, tree_named, names_office, is_quiet, are_quiet}
+use Rattle.wb_sql.specs.Among.{HasTable, HasOffice, table_in, tree_named, names_office, are_quiet}
 
 -- what has the same name as a name has the same name as each that is the same
 pub same_name_as : (name a b : List ℕ) → same_name a b ≡ true → same_name name a ≡ same_name name b
@@ -31,32 +31,37 @@ pub named_as : (tables : List Table) (a b : List ℕ) → same_name a b ≡ true
 named_as [] a b same = refl
 named_as (t ∷ tables) a b same = ap₂ ◌||◌ (same_name_as t.name a b same) (named_as tables a b same)
 
--- a reference to a table that is alone in its tree and has one of the office's names does nothing, if it is quiet
-module _ (schema : Schema) (table : Table) (has : HasTable schema table) (named : names_office table.name ≡ true) where
-  parent_named : (ref : Reference) (key : ParentKey) → parent_key schema.tables ref ≡ Some key → (key.0 == table.tree) ≡ true → names_office ref.parent ≡ true
+-- a reference to a table that is alone in its tree does nothing, if each to a table with one of these names does, and the table has one
+module _ (Named : List ℕ → Bool) (alike : (a b : List ℕ) → same_name a b ≡ true → Named a ≡ Named b) (schema : Schema) (table : Table)
+    (has : HasTable schema table) (named : Named table.name ≡ true) where
+  parent_named : (ref : Reference) (key : ParentKey) → parent_key schema.tables ref ≡ Some key → (key.0 == table.tree) ≡ true → Named ref.parent ≡ true
   parent_named ref key found here =
       let p = named_parent schema.tables ref key found in
       let kept : Has (table ∷ []) p.0 =
       subst (λ ts. Has ts p.0) has.in_tree (has_kept (λ (t : Table). t.tree == table.tree) schema.tables p.0 p.1 (eq-eqb p.0.tree table.tree (p.2 ∙ eqb-true key.0 table.tree here))) in
       let is : p.0 ≡ table = elim kept [ inl same ↦ same | inr later ↦ absurd later ] in
-      sym (named_as office_schema.tables table.name ref.parent (subst (λ (t : Table). same_name t.name ref.parent ≡ true) is p.3)) ∙ named
+      sym (alike table.name ref.parent (subst (λ (t : Table). same_name t.name ref.parent ≡ true) is p.3)) ∙ named
 
-  quiet_if : (ref : Reference) (here : Bool) → (not (names_office ref.parent) || does_nothing ref) ≡ true → (here ≡ true → names_office ref.parent ≡ true) → (not here || does_nothing ref) ≡ true
-  quiet_if ref false quiet named = refl
-  quiet_if ref true quiet named = rw (named refl) at quiet
+  idle_if : (ref : Reference) (here : Bool) → (not (Named ref.parent) || does_nothing ref) ≡ true → (here ≡ true → Named ref.parent ≡ true) → (not here || does_nothing ref) ≡ true
+  idle_if ref false idle named = refl
+  idle_if ref true idle named = rw (named refl) at idle
 
-  quiet_by : (ref : Reference) (key : Option ParentKey) → parent_key schema.tables ref ≡ key → (not (names_office ref.parent) || does_nothing ref) ≡ true
+  idle_by : (ref : Reference) (key : Option ParentKey) → parent_key schema.tables ref ≡ key → (not (Named ref.parent) || does_nothing ref) ≡ true
       → (not (unwrap_or (option_map (λ key. key.0 == table.tree) key) false) || does_nothing ref) ≡ true
-  quiet_by ref None found quiet = refl
-  quiet_by ref (Some key) found quiet = quiet_if ref (key.0 == table.tree) quiet (parent_named ref key found)
+  idle_by ref None found idle = refl
+  idle_by ref (Some key) found idle = idle_if ref (key.0 == table.tree) idle (parent_named ref key found)
 
-  -- a foreign key of a quiet schema that refers to the table does nothing
-  quiet_in : are_quiet schema ≡ true → never_acts_on schema table.tree ≡ true
-  quiet_in quiet =
+  pub never_acted_on : list_all (λ (t : Table). list_all (λ ref. not (Named ref.parent) || does_nothing ref) t.references) schema.tables ≡ true → never_acts_on schema table.tree ≡ true
+  never_acted_on idle =
       test_from (λ (t : Table). list_all (λ ref. not (refers_to_tree schema table.tree ref) || does_nothing ref) t.references) schema.tables (λ t there.
       test_from (λ ref. not (refers_to_tree schema table.tree ref) || does_nothing ref) t.references (λ ref among.
-      quiet_by ref (parent_key schema.tables ref) refl
-      (test_has (λ ref. not (names_office ref.parent) || does_nothing ref) t.references ref (test_has is_quiet schema.tables t quiet there) among)))
+      idle_by ref (parent_key schema.tables ref) refl
+      (test_has (λ ref. not (Named ref.parent) || does_nothing ref) t.references ref
+      (test_has (λ (t : Table). list_all (λ ref. not (Named ref.parent) || does_nothing ref) t.references) schema.tables t idle there) among)))
+
+-- a foreign key of a quiet schema that refers to one of the office's tables does nothing
+quiet_in : (schema : Schema) (table : Table) → HasTable schema table → names_office table.name ≡ true → are_quiet schema ≡ true → never_acts_on schema table.tree ≡ true
+quiet_in = never_acted_on names_office (named_as office_schema.tables)
 
 -- so it is with each of the office's tables that a command changes
 pub office_quiet : (schema : Schema) → HasOffice schema → never_acts_on schema (tree_named schema office.name) ≡ true

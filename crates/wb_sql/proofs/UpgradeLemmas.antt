@@ -13,14 +13,14 @@ use Rattle.sqlite_rules.proofs.ListLemmas.{test_push}
 use Rattle.sqlite_schema.specs.declared.schema.Index.{Index}
 use Rattle.sqlite_schema.specs.Names.{same_name}
 use Rattle.wb_sql.specs.Among.{HasTable, IsNumbered, index_at, table_at, table_in, tree_named}
-use Rattle.wb_sql.specs.FirstSchema.{HasStates, source_state}
+use Rattle.wb_sql.specs.FirstSchema.{source_state, state_order}
 use Rattle.wb_sql.specs.Making.{with_index}
 use Rattle.wb_sql.specs.Recognition.{HasIndexed, indexes_on, treeless}
 use Rattle.wb_sql.specs.Tables.{office, arch, builder, source_record, scratch_source, scratch_binary}
 use Rattle.wb_sql.specs.Tables.{record_order, record_take, source_name, binary_source, binary_name}
 use Rattle.wb_sql.specs.Upgrading.{HasFirstOffice, HasUpgradedOffice, names_either, refers_to_neither, is_still, second_names}
 use Rattle.wb_sql.specs.Upgrading.{with_second_record, with_second_order, with_second_take, with_second_source, with_second_binary, with_second}
-use Rattle.wb_sql.proofs.AppendLemmas.{all_both, all_pass, all_fail, each_fails}
+use Rattle.wb_sql.proofs.AppendLemmas.{all_so, all_append, all_split, all_both, all_pass, all_fail, each_fails}
 use Rattle.wb_sql.proofs.CreatedLemmas.{has_below, created_keeps, created_has, indexed_keeps, created_keeps_indexes, created_has_indexes, indexed_has_indexes, indexed_keeps_indexes, one_name, same_tree, new_tree, created_free, indexed_free, created_counted}
 use Rattle.wb_sql.proofs.GrowthLemmas.{IsGrown}
 use Rattle.wb_sql.proofs.OwnedLemmas.{differs, apart_of}
@@ -41,6 +41,15 @@ created_keeps_indexed schema made table indexes h =
     let tree : ℕ = tree_named schema table.name in
     let same = created_keeps_indexes schema made tree (indexes_on tree schema.indexes) (has_below schema (table_in schema table) h.has) refl in
     indexed_in (created schema made) table indexes tree (same_tree schema made table h.has) (created_keeps schema made (table_in schema table) h.has) (ap (map treeless) same ∙ h.indexed)
+
+-- the schema has the table with these indexes
+abbrev HasOne : Schema → Table × List Index → Type 0
+HasOne schema it = HasIndexed schema it.0 it.1
+
+-- and so do others
+created_keeps_all : (schema : Schema) (made : Table) (those : List (Table × List Index)) → AllByRecursion (HasOne schema) those
+    → AllByRecursion (HasOne (created schema made)) those
+created_keeps_all schema made = all_so _ _ (λ it have. created_keeps_indexed schema made it.0 it.1 have)
 
 -- the new table of records, with the index of its key
 created_has_records : (schema : Schema) → is_used schema source_record.name ≡ false → next_tree schema < 2 ^ 31
@@ -133,134 +142,101 @@ binary_unlike : list_all (λ name. not (same_name binary_source.name name)) from
 unfolding same_name
 binary_unlike = refl
 
--- what is known of a schema on the way: the table of records is made, the tables have these indexes, and these names are free
-pub record IsUpgrading (base schema : Schema) (records sources binaries : List Index) (names : List (List ℕ)) : Type 0 where
+-- what is known of a schema on the way: the table of records is made, these tables have these indexes, and these names are free
+pub record IsUpgrading (base schema : Schema) (indexed : List (Table × List Index)) (names : List (List ℕ)) : Type 0 where
   pub tables_are : schema.tables ≡ base.tables ++ table_at (next_tree base) source_record ∷ []
-  pub office_is : HasIndexed schema office []
-  pub archs_are : HasIndexed schema arch (automatic arch 0 (1 ∷ []) 2 ∷ [])
-  pub builders_are : HasIndexed schema builder (automatic builder 0 (1 ∷ 2 ∷ []) 4 ∷ [])
-  pub states_are : HasStates schema
-  pub records_are : HasIndexed schema source_record records
-  pub sources_are : HasIndexed schema scratch_source sources
-  pub binaries_are : HasIndexed schema scratch_binary binaries
+  pub have : AllByRecursion (HasOne schema) indexed
   pub free : AllByRecursion (λ name. is_used schema name ≡ false) names
   pub counted : lacks_sequence schema ≡ false
 
--- an index is made on the table of records
-index_records : {base schema : Schema} {records sources binaries : List Index} {names : List (List ℕ)} (index : Index)
-    → IsUpgrading base schema records sources binaries (index.name ∷ names) → list_all (λ name. not (same_name index.name name)) names ≡ true
-    → IsUpgrading base (with_index schema source_record index) (records ++ index ∷ []) sources binaries names
-unfolding same_name
-index_records {base} {schema} {records} {sources} {binaries} {names} index was unlike =
-    let there = was.records_are.has in
+-- tables stay where an index is made on one with another name
+indexed_keeps_all : (schema : Schema) (on : Table) (index : Index) → HasTable schema (table_in schema on) → (those : List (Table × List Index))
+    → list_all (λ it. not (same_name it.0.name on.name)) those ≡ true → AllByRecursion (HasOne schema) those
+    → AllByRecursion (HasOne (with_index schema on index)) those
+indexed_keeps_all schema on index there those apart have =
+    all_both _ _ _ (λ it has other. indexed_keeps_indexed schema on index it.0 it.1 there (apart_of it.0.name on.name other) has) those have (all_pass (λ it. not (same_name it.0.name on.name)) those apart)
+
+-- an index is made on one of the tables
+index_one : {base schema : Schema} {names : List (List ℕ)} (before : List (Table × List Index)) (on : Table) (indexes : List Index) (after : List (Table × List Index)) (index : Index)
+    → IsUpgrading base schema (before ++ (on, indexes) ∷ after) (index.name ∷ names) → list_all (λ it. not (same_name it.0.name on.name)) before ≡ true
+    → list_all (λ it. not (same_name it.0.name on.name)) after ≡ true → list_all (λ name. not (same_name index.name name)) names ≡ true
+    → IsUpgrading base (with_index schema on index) (before ++ (on, indexes ++ index ∷ []) ∷ after) names
+index_one {base} {schema} {names} before on indexes after index was apart_before apart_after unlike =
+    let have = all_split _ before ((on, indexes) ∷ after) was.have in
+    let there = have.1.0.has in
     record {
       tables_are = was.tables_are;
-      office_is = indexed_keeps_indexed schema source_record index office _ there (apart_of _ _ refl) was.office_is;
-      archs_are = indexed_keeps_indexed schema source_record index arch _ there (apart_of _ _ refl) was.archs_are;
-      builders_are = indexed_keeps_indexed schema source_record index builder _ there (apart_of _ _ refl) was.builders_are;
-      states_are = indexed_keeps_indexed schema source_record index source_state _ there (apart_of _ _ refl) was.states_are;
-      records_are = indexed_has_indexed schema source_record index records was.records_are;
-      sources_are = indexed_keeps_indexed schema source_record index scratch_source _ there (apart_of _ _ refl) was.sources_are;
-      binaries_are = indexed_keeps_indexed schema source_record index scratch_binary _ there (apart_of _ _ refl) was.binaries_are;
-      free = indexed_leaves_free schema (table_in schema source_record) index names was.free.1 unlike;
+      have = all_append _ before ((on, indexes ++ index ∷ []) ∷ after) (indexed_keeps_all schema on index there before apart_before have.0)
+          (indexed_has_indexed schema on index indexes have.1.0, indexed_keeps_all schema on index there after apart_after have.1.1);
+      free = indexed_leaves_free schema (table_in schema on) index names was.free.1 unlike;
       counted = was.counted;
     }
 
--- or on the scratch table of source packages
-index_sources : {base schema : Schema} {records sources binaries : List Index} {names : List (List ℕ)} (index : Index)
-    → IsUpgrading base schema records sources binaries (index.name ∷ names) → list_all (λ name. not (same_name index.name name)) names ≡ true
-    → IsUpgrading base (with_index schema scratch_source index) records (sources ++ index ∷ []) binaries names
-unfolding same_name
-index_sources {base} {schema} {records} {sources} {binaries} {names} index was unlike =
-    let there = was.sources_are.has in
-    record {
-      tables_are = was.tables_are;
-      office_is = indexed_keeps_indexed schema scratch_source index office _ there (apart_of _ _ refl) was.office_is;
-      archs_are = indexed_keeps_indexed schema scratch_source index arch _ there (apart_of _ _ refl) was.archs_are;
-      builders_are = indexed_keeps_indexed schema scratch_source index builder _ there (apart_of _ _ refl) was.builders_are;
-      states_are = indexed_keeps_indexed schema scratch_source index source_state _ there (apart_of _ _ refl) was.states_are;
-      records_are = indexed_keeps_indexed schema scratch_source index source_record records there (apart_of _ _ refl) was.records_are;
-      sources_are = indexed_has_indexed schema scratch_source index sources was.sources_are;
-      binaries_are = indexed_keeps_indexed schema scratch_source index scratch_binary _ there (apart_of _ _ refl) was.binaries_are;
-      free = indexed_leaves_free schema (table_in schema scratch_source) index names was.free.1 unlike;
-      counted = was.counted;
-    }
+-- the tables that get no index, with those that they have
+abbrev pub with_no_new : List (Table × List Index)
+with_no_new =
+    (office, []) ∷ (arch, automatic arch 0 (1 ∷ []) 2 ∷ []) ∷ (builder, automatic builder 0 (1 ∷ 2 ∷ []) 4 ∷ [])
+    ∷ (source_state, automatic source_state 0 (10 ∷ []) 6 ∷ automatic source_state 1 (1 ∷ 2 ∷ []) 7 ∷ state_order ∷ []) ∷ []
 
--- or on that of binary packages
-index_binaries : {base schema : Schema} {records sources binaries : List Index} {names : List (List ℕ)} (index : Index)
-    → IsUpgrading base schema records sources binaries (index.name ∷ names) → list_all (λ name. not (same_name index.name name)) names ≡ true
-    → IsUpgrading base (with_index schema scratch_binary index) records sources (binaries ++ index ∷ []) names
-unfolding same_name
-index_binaries {base} {schema} {records} {sources} {binaries} {names} index was unlike =
-    let there = was.binaries_are.has in
-    record {
-      tables_are = was.tables_are;
-      office_is = indexed_keeps_indexed schema scratch_binary index office _ there (apart_of _ _ refl) was.office_is;
-      archs_are = indexed_keeps_indexed schema scratch_binary index arch _ there (apart_of _ _ refl) was.archs_are;
-      builders_are = indexed_keeps_indexed schema scratch_binary index builder _ there (apart_of _ _ refl) was.builders_are;
-      states_are = indexed_keeps_indexed schema scratch_binary index source_state _ there (apart_of _ _ refl) was.states_are;
-      records_are = indexed_keeps_indexed schema scratch_binary index source_record records there (apart_of _ _ refl) was.records_are;
-      sources_are = indexed_keeps_indexed schema scratch_binary index scratch_source sources there (apart_of _ _ refl) was.sources_are;
-      binaries_are = indexed_has_indexed schema scratch_binary index binaries was.binaries_are;
-      free = indexed_leaves_free schema (table_in schema scratch_binary) index names was.free.1 unlike;
-      counted = was.counted;
-    }
+-- and the table of records, with the index of its key and these
+abbrev pub with_records : List Index → List (Table × List Index)
+with_records more = with_no_new ++ (source_record, automatic source_record 0 (1 ∷ 2 ∷ []) 6 ∷ more) ∷ []
 
--- the index of the key of records
-abbrev pub record_key : Index
-record_key = automatic source_record 0 (1 ∷ 2 ∷ []) 6
+-- and the scratch tables with these
+abbrev pub with_scratch : List Index → List Index → List Index → List (Table × List Index)
+with_scratch records sources binaries = with_records records ++ (scratch_source, sources) ∷ (scratch_binary, binaries) ∷ []
 
 module _ (base : Schema) (first : HasFirstOffice base) (numbered : IsNumbered base) where
   -- what is made has free names
   names_free : AllByRecursion (λ name. is_used base name ≡ false) second_names
   names_free = each_fails (λ name. is_used base name) second_names first.free
 
-  record_stage : IsUpgrading base (with_second_record base) (record_key ∷ []) [] [] from_second_order
+  record_stage : IsUpgrading base (with_second_record base) (with_scratch [] [] []) from_second_order
   unfolding with_second_record
   record_stage =
       let bounded : next_tree base ≤ 65536 = numbered.bounded in
+      let tables = first.tables in
       record {
         tables_are = refl;
-        office_is = created_keeps_indexed base source_record office _ first.tables.office_is;
-        archs_are = created_keeps_indexed base source_record arch _ first.tables.archs_are;
-        builders_are = created_keeps_indexed base source_record builder _ first.tables.builders_are;
-        states_are = created_keeps_indexed base source_record source_state _ first.tables.states_are;
-        records_are = created_has_records base names_free.0 (omega arith) numbered.indexes;
-        sources_are = created_keeps_indexed base source_record scratch_source _ first.tables.sources_are;
-        binaries_are = created_keeps_indexed base source_record scratch_binary _ first.tables.binaries_are;
+        have = all_append (HasOne (with_second_record base)) with_no_new ((source_record, automatic source_record 0 (1 ∷ 2 ∷ []) 6 ∷ []) ∷ (scratch_source, []) ∷ (scratch_binary, []) ∷ [])
+            (created_keeps_all base source_record with_no_new (tables.office_is, (tables.archs_are, (tables.builders_are, (tables.states_are, tt))))) (
+              created_has_records base names_free.0 (omega arith) numbered.indexes,
+              created_keeps_all base source_record ((scratch_source, []) ∷ (scratch_binary, []) ∷ []) (tables.sources_are, (tables.binaries_are, tt)),
+            );
         free = created_leaves_free base source_record from_second_order names_free.1 (record_unlike (next_tree base));
         counted = created_counted base source_record refl first.counted;
       }
 
-  order_stage : IsUpgrading base (with_second_order base) (record_key ∷ record_order ∷ []) [] [] from_second_take
-  unfolding with_second_order
-  order_stage = index_records record_order record_stage order_unlike
+  order_stage : IsUpgrading base (with_second_order base) (with_scratch (record_order ∷ []) [] []) from_second_take
+  unfolding with_second_order same_name
+  order_stage = index_one with_no_new source_record _ ((scratch_source, []) ∷ (scratch_binary, []) ∷ []) record_order record_stage refl refl order_unlike
 
-  take_stage : IsUpgrading base (with_second_take base) (record_key ∷ record_order ∷ record_take ∷ []) [] [] from_second_source
-  unfolding with_second_take
-  take_stage = index_records record_take order_stage take_unlike
+  take_stage : IsUpgrading base (with_second_take base) (with_scratch (record_order ∷ record_take ∷ []) [] []) from_second_source
+  unfolding with_second_take same_name
+  take_stage = index_one with_no_new source_record _ ((scratch_source, []) ∷ (scratch_binary, []) ∷ []) record_take order_stage refl refl take_unlike
 
-  source_stage : IsUpgrading base (with_second_source base) (record_key ∷ record_order ∷ record_take ∷ []) (source_name ∷ []) [] from_second_binary
-  unfolding with_second_source
-  source_stage = index_sources source_name take_stage source_unlike
+  source_stage : IsUpgrading base (with_second_source base) (with_scratch (record_order ∷ record_take ∷ []) (source_name ∷ []) []) from_second_binary
+  unfolding with_second_source same_name
+  source_stage = index_one (with_records (record_order ∷ record_take ∷ [])) scratch_source [] ((scratch_binary, []) ∷ []) source_name take_stage refl refl source_unlike
 
-  binary_stage : IsUpgrading base (with_second_binary base) (record_key ∷ record_order ∷ record_take ∷ []) (source_name ∷ []) (binary_source ∷ []) from_second_name
-  unfolding with_second_binary
-  binary_stage = index_binaries binary_source source_stage binary_unlike
+  binary_stage : IsUpgrading base (with_second_binary base) (with_scratch (record_order ∷ record_take ∷ []) (source_name ∷ []) (binary_source ∷ [])) from_second_name
+  unfolding with_second_binary same_name
+  binary_stage = index_one (with_records (record_order ∷ record_take ∷ []) ++ (scratch_source, source_name ∷ []) ∷ []) scratch_binary [] [] binary_source source_stage refl refl binary_unlike
 
-  second_stage : IsUpgrading base (with_second base) (record_key ∷ record_order ∷ record_take ∷ []) (source_name ∷ []) (binary_source ∷ binary_name ∷ []) []
-  unfolding with_second
-  second_stage = index_binaries binary_name binary_stage refl
+  second_stage : IsUpgrading base (with_second base) (with_scratch (record_order ∷ record_take ∷ []) (source_name ∷ []) (binary_source ∷ binary_name ∷ [])) []
+  unfolding with_second same_name
+  second_stage =
+      index_one (with_records (record_order ∷ record_take ∷ []) ++ (scratch_source, source_name ∷ []) ∷ []) scratch_binary (binary_source ∷ []) [] binary_name binary_stage refl refl refl
 
 -- ---- the schema on the way
 
 -- a stage is a schema on the way
-grown_by : {base schema : Schema} {records sources binaries : List Index} {names : List (List ℕ)} → IsUpgrading base schema records sources binaries names
-    → IsGrown base schema (source_record ∷ []) names
-grown_by {base} stage = record {
+grown_by : {base schema : Schema} {indexed : List (Table × List Index)} {names : List (List ℕ)} → HasTable schema (table_in schema source_record)
+    → IsUpgrading base schema indexed names → IsGrown base schema (source_record ∷ []) names
+grown_by {base} records stage = record {
   more = table_at (next_tree base) source_record ∷ [];
   tables_are = stage.tables_are;
-  has = (stage.records_are.has, tt);
+  has = (records, tt);
   free = stage.free;
   counted = stage.counted;
 }
@@ -272,33 +248,33 @@ module _ (base : Schema) (first : HasFirstOffice base) (numbered : IsNumbered ba
 
   -- after the table of records
   pub second_record_grown : IsGrown base (with_second_record base) (source_record ∷ []) from_second_order
-  second_record_grown = grown_by (record_stage base first numbered)
+  second_record_grown = let stage = record_stage base first numbered in grown_by stage.have.1.1.1.1.0.has stage
 
   -- and its first index
   pub second_order_grown : IsGrown base (with_second_order base) (source_record ∷ []) from_second_take
-  second_order_grown = grown_by (order_stage base first numbered)
+  second_order_grown = let stage = order_stage base first numbered in grown_by stage.have.1.1.1.1.0.has stage
 
   -- and its second index
   pub second_take_grown : IsGrown base (with_second_take base) (source_record ∷ []) from_second_source
-  second_take_grown = grown_by (take_stage base first numbered)
+  second_take_grown = let stage = take_stage base first numbered in grown_by stage.have.1.1.1.1.0.has stage
 
   -- and the index of the scratch table of source packages
   pub second_source_grown : IsGrown base (with_second_source base) (source_record ∷ []) from_second_binary
-  second_source_grown = grown_by (source_stage base first numbered)
+  second_source_grown = let stage = source_stage base first numbered in grown_by stage.have.1.1.1.1.0.has stage
 
   -- and the first index of that of binary packages
   pub second_binary_grown : IsGrown base (with_second_binary base) (source_record ∷ []) from_second_name
-  second_binary_grown = grown_by (binary_stage base first numbered)
+  second_binary_grown = let stage = binary_stage base first numbered in grown_by stage.have.1.1.1.1.0.has stage
 
   -- the scratch tables, when their indexes are made
   pub sources_there : HasTable (with_second_take base) (table_in (with_second_take base) scratch_source)
-  sources_there = (take_stage base first numbered).sources_are.has
+  sources_there = (take_stage base first numbered).have.1.1.1.1.1.0.has
 
   pub binaries_there : HasTable (with_second_source base) (table_in (with_second_source base) scratch_binary)
-  binaries_there = (source_stage base first numbered).binaries_are.has
+  binaries_there = (source_stage base first numbered).have.1.1.1.1.1.1.0.has
 
   pub binaries_still_there : HasTable (with_second_binary base) (table_in (with_second_binary base) scratch_binary)
-  binaries_still_there = (binary_stage base first numbered).binaries_are.has
+  binaries_still_there = (binary_stage base first numbered).have.1.1.1.1.1.1.0.has
 
 -- ---- the office
 
@@ -315,16 +291,17 @@ record_still tree = refl
 pub office_upgraded : (base : Schema) → HasFirstOffice base → IsNumbered base → HasUpgradedOffice (with_second base)
 office_upgraded base first numbered =
     let stage = second_stage base first numbered in
+    let have = stage.have in
     record {
       tables = record {
-        office_is = stage.office_is;
-        archs_are = stage.archs_are;
-        builders_are = stage.builders_are;
-        records_are = stage.records_are;
-        sources_are = stage.sources_are;
-        binaries_are = stage.binaries_are;
+        office_is = have.0;
+        archs_are = have.1.0;
+        builders_are = have.1.1.0;
+        records_are = have.1.1.1.1.0;
+        sources_are = have.1.1.1.1.1.0;
+        binaries_are = have.1.1.1.1.1.1.0;
       };
-      states_are = stage.states_are;
+      states_are = have.1.1.1.0;
       unshared = subst (λ tables. list_all (λ (t : Table). names_either t.name || refers_to_neither t) tables ≡ true) (sym stage.tables_are)
           (test_push _ base.tables _ first.unshared (record_unshared (next_tree base)));
       still = subst (λ tables. list_all is_still tables ≡ true) (sym stage.tables_are) (test_push is_still base.tables _ first.still (record_still (next_tree base)));
