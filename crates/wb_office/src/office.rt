@@ -10,9 +10,11 @@ ghost use Rattle.wb_sql.specs.Settled.{LeaveOnly};
 ghost use Rattle.wb_store.specs.Settled.{AreSettledAt, StandsForTrees};
 ghost use Rattle.wb_sql.specs.Among.{HasOffice, LacksOffice};
 ghost use Rattle.wb_sql.specs.Format.{HasFormatColumn};
-ghost use Rattle.wb_store.specs.Checks.{HasGoodRows};
+ghost use Rattle.wb_sql.specs.Upgrading.{HasFirstOffice};
+ghost use Rattle.wb_store.specs.Checks.{HasGoodRows, HasGoodRowsIn};
 ghost use Rattle.wb_store.specs.Formats.{IsNewer};
-ghost use Rattle.wb_store.specs.Opening.{HasNoScratchRows, IsRefusedFrom};
+ghost use Rattle.wb_store.specs.Opening.{HasNoRowsLeft, HasNoScratchRows, IsRefusedFrom};
+ghost use Rattle.wb_store.specs.declared.format.Format.TheVariants.{One};
 ghost use Rattle.wb_store.specs.Files.{AreFoundAt, AreNew, FailsToOpen, IsFaultOfClosing, IsRefusedOver};
 ghost use Rattle.wb_store.specs.Files.{LeaveOffice};
 ghost use Rattle.wb_store.specs.Merging.{no_merge};
@@ -55,14 +57,17 @@ pub struct Office<S: Alter + Drop> {
 impl<S: Alter + Drop> Office<S> {
     /// Opens the office whose tables the connection has, which is in no transaction; a database that lacks them becomes
     /// that of an empty office. Tables of others may stand beside the office's, as
-    /// [`has_office_tables`](wb_sql::has_office_tables) and [`lacks_office`](wb_sql::lacks_office) say. Each row of
-    /// the office's tables is tested. The faults are `NewerSchema` if the table `office` has one row, with a format that is
-    /// newer than this program's, whatever its other tables are; `NotOffice` if the database has something of the office's
-    /// names, but not its tables, or a table that refers to them, and is then left as it is, or the row of the office is
-    /// missing or of an older format; `Damaged` with the table and the first row, counted from 1, that breaks the rules of
-    /// an office, or with row 0 if a statement on the table was refused, `Memory`, and `Device` if the disk failed or is
-    /// full. After a fault a crash leaves the office as it was found, or the tables of an empty one, and no transaction is
-    /// under way. A limit of steps of the connection stays (this project's own).
+    /// [`has_office_tables`](wb_sql::has_office_tables) and [`lacks_office`](wb_sql::lacks_office) say. Each row of the
+    /// office's tables is tested. An office of the first schema, whose tables are those of format 1, is then brought over
+    /// into the second in one transaction: each record has build priority 0, and the table of its records stays without a
+    /// row. The faults are `NewerSchema` if the table `office` has one row, with a format that is newer than this
+    /// program's, whatever its other tables are; `NotOffice` if the database has something of the office's names, but not
+    /// its tables, or a table that refers to them, and is then left as it is, or the row of the office is missing or of
+    /// another format than that of the tables; `Damaged` with the table and the first row, counted from 1, that breaks the
+    /// rules of an office, or with row 0 if a statement on the table was refused, `Memory`, and `Device` if the disk failed
+    /// or is full. After a fault a crash leaves the office as it was found, in the one schema or in the other, or the
+    /// tables of an empty one, and no transaction is under way. A limit of steps of the connection stays (this project's
+    /// own).
     pub fn adopt(alloc: Global, conn: Connection<S>) -> Result<Office<S>, StoreFault>
         requires idle { conn.in_transaction ≡ false }
         ensures opened { IfOk result (λ office. office.is_closed ≡ false) }
@@ -71,8 +76,11 @@ impl<S: Alter + Drop> Office<S> {
             → StandsAt machine office.is_closed office.known (state S.Store office.store)) }
         ensures good { IfOk result (λ office. HasCleanDisk (state S.Store office.store)
             → HasOffice conn.schema
-            → HasGoodRows (state S.Store conn).now × HasNoScratchRows (state S.Store conn).now) }
-        ensures known { IfOk result (λ _. LacksOffice conn.schema ⊎ HasOffice conn.schema) }
+            → HasGoodRows (state S.Store conn).now × HasNoRowsLeft (state S.Store conn).now) }
+        ensures good_first { IfOk result (λ office. HasCleanDisk (state S.Store office.store)
+            → HasFirstOffice conn.schema
+            → HasGoodRowsIn One (state S.Store conn).now × HasNoScratchRows (state S.Store conn).now) }
+        ensures known { IfOk result (λ _. LacksOffice conn.schema ⊎ (HasOffice conn.schema ⊎ HasFirstOffice conn.schema)) }
         ensures newer { IfOk result (λ office. HasCleanDisk (state S.Store office.store)
             → ¬ IsNewer (state S.Store conn).now) }
         ensures other { ¬ LacksOffice conn.schema → ¬ HasOffice conn.schema

@@ -3,8 +3,7 @@ use Rattle.std.proofs.Common.{refl, ℕ, List, [], ◌∷◌, codes, false}
 use Rattle.sqlite_schema.specs.Names.{same_name}
 use Rattle.sqlite_schema.specs.declared.schema.Column.{Column}
 use Rattle.sqlite.specs.Kind.TheVariants.{Integer, Text}
-use Rattle.wb_sql.specs.Tables.{text, number, typed}
-use Rattle.wb_sql.specs.FirstSchema.{source_state}
+use Rattle.wb_sql.specs.Tables.{text, number, typed, source_state}
 use Rattle.wb_sql.specs.Among.{table_at}
 use Rattle.wb_sql.proofs.ShownLemmas.{AreColumns}
 

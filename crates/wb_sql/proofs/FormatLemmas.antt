@@ -16,7 +16,7 @@ use Rattle.sqlite_resolve.specs.Terms.{number as shown_number}
 use Rattle.sqlite_ast.specs.declared.Select.{Select}
 use Rattle.sqlite_ast.specs.declared.Statement.TheVariants as written
 use Rattle.wb_sql.specs.Queries.{query_of}
-use Rattle.wb_sql.specs.Among.{HasOffice, HasTable, LacksOffice, table_in}
+use Rattle.wb_sql.specs.Among.{HasTable, LacksOffice, table_in}
 use Rattle.wb_sql.specs.OfficeStatements.{no_limit}
 use Rattle.wb_sql.specs.Format.{HasFormatColumn, AsksFormat, format_place, formats_in}
 use Rattle.wb_sql.specs.Recognition.{IsFound}
@@ -112,18 +112,18 @@ same_format schema a b =
     let place : a.format.place ≡ b.format.place = some_is _ _ (sym named ∙ b.format.named) in
     (table, subst (λ t. place_of t a.format.place ≡ place_of b.table b.format.place) (sym table) (ap (place_of b.table) place))
 
--- a schema with the office's tables has it
-pub format_of_office : (schema : Schema) → HasOffice schema → HasFormatColumn schema
+-- a schema with the table of the office has it
+pub format_of_office : (schema : Schema) → HasTable schema (table_in schema office) → HasFormatColumn schema
 unfolding same_name
 format_of_office schema has = record {
   table = table_in schema office;
-  has = has.office_is;
+  has = has;
   spelled = refl;
   format = record { place = 1; column = number (codes "format"); named = refl; listed = refl; spelled = refl };
 }
 
 -- there it is at the third place of a row, after the rowid and the id
-pub format_in_office : (schema : Schema) (has : HasOffice schema) (h : HasFormatColumn schema) → (h.table ≡ table_in schema office) × (format_place h ≡ 2)
+pub format_in_office : (schema : Schema) (has : HasTable schema (table_in schema office)) (h : HasFormatColumn schema) → (h.table ≡ table_in schema office) × (format_place h ≡ 2)
 unfolding format_of_office
 format_in_office schema has h = same_format schema h (format_of_office schema has)
 

@@ -1,33 +1,28 @@
 -- The office's names are free in a schema that lacks the office.
-use Rattle.std.proofs.Common.{◌≡◌, ℕ, ◌||◌, true, false, List, [], ◌∷◌, refl, ap, ap₂, map, None}
+use Rattle.std.proofs.Common.{◌≡◌, ℕ, ◌||◌, true, false, List, [], ◌∷◌, ◌++◌, refl, ap₂, None}
 use Rattle.std.specs.List.{list_any, position_from}
-use Rattle.std.specs.Char.{to_ascii_lowercase}
-use Rattle.std.specs.Ordering.{nat_cmp, is_eq}
-use Rattle.std.specs.Cmp.Lexicographic.{slice_cmp}
 use Rattle.std.proofs.lemmas.Bool.{false_from_ne_true}
 use Rattle.sqlite.specs.Schema.{Schema}
 use Rattle.sqlite.specs.Change.{is_used}
-use Rattle.sqlite_catalog.proofs.SoundLemmas.{lowered}
+use Rattle.sqlite_schema.specs.declared.schema.Index.{Index}
 use Rattle.sqlite_schema.specs.Names.{same_name}
-use Rattle.wb_sql.specs.Tables.{office_schema}
+use Rattle.wb_sql.specs.Tables.{office_schema, state_order}
 use Rattle.wb_sql.specs.Among.{is_office_name, LacksOffice}
 use Rattle.wb_sql.proofs.AppendLemmas.{all_so, none_of, each_fails}
 use Rattle.wb_sql.proofs.CreatedLemmas.{free_from}
+use Rattle.wb_sql.proofs.QuietLemmas.{same_name_as, either_as}
 
--- a name and one like it are like the same names
-any_like : {X : Type 0} (f : X → List ℕ) (xs : List X) (name other : List ℕ) → map to_ascii_lowercase name ≡ map to_ascii_lowercase other
-    → list_any (λ x. same_name (f x) name) xs ≡ list_any (λ x. same_name (f x) other) xs
-unfolding same_name
-any_like f [] name other e = refl
-any_like f (x ∷ xs) name other e = ap₂ ◌||◌ (ap (λ low. is_eq (slice_cmp nat_cmp (map to_ascii_lowercase (f x)) low)) e) (any_like f xs name other e)
+-- a name is like that of an index as each is that has the same name
+index_as : (indexes : List Index) (a b : List ℕ) → same_name a b ≡ true → list_any (λ i. same_name i.name a) indexes ≡ list_any (λ i. same_name i.name b) indexes
+index_as [] a b same = refl
+index_as (i ∷ indexes) a b same = ap₂ ◌||◌ (same_name_as i.name a b same) (index_as indexes a b same)
 
 -- a name that is none of the office's differs from one that is
 not_office : (name other : List ℕ) → is_office_name other ≡ true → is_office_name name ≡ false → same_name name other ≡ false
 not_office name other is none =
     false_from_ne_true _ (λ same.
-    let e = (lowered name other).0 same in
     let like : is_office_name name ≡ is_office_name other =
-    ap₂ ◌||◌ (any_like (λ t. t.name) office_schema.tables name other e) (any_like (λ i. i.name) office_schema.indexes name other e) in
+    ap₂ ◌||◌ (either_as name other same) (index_as (office_schema.indexes ++ state_order ∷ []) name other same) in
     cc)
 
 -- none of those whose names are none of the office's has a name that is

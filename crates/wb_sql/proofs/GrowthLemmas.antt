@@ -1,5 +1,5 @@
 -- How a schema grows by the office's tables and indexes.
-use Rattle.std.proofs.Common.{◌≡◌, ℕ, ◌+◌, ◌≤◌, not, true, false, List, [], ◌∷◌, ◌++◌, refl, sym, arith, append-nil, map}
+use Rattle.std.proofs.Common.{◌≡◌, ℕ, ◌+◌, ◌≤◌, not, true, false, List, [], ◌∷◌, ◌++◌, refl, sym, arith, append-nil, map, inl}
 use Rattle.std.specs.List.{AllByRecursion, list_all}
 use Rattle.std.specs.Fmt.{digits}
 use Rattle.std.proofs.lemmas.Bool.{and_parts, or_left, or_right}
@@ -10,9 +10,9 @@ use Rattle.sqlite.specs.Does.{lacks_sequence}
 use Rattle.sqlite_catalog.proofs.StepLemmas.{no_table}
 use Rattle.sqlite_schema.specs.declared.schema.Index.{Index}
 use Rattle.sqlite_schema.specs.Names.{same_name}
-use Rattle.wb_sql.specs.Tables.{office, arch, builder, source_record, scratch_source, scratch_binary}
+use Rattle.wb_sql.specs.Tables.{office, arch, builder, source_record, source_state, scratch_source, scratch_binary}
 use Rattle.wb_sql.specs.Tables.{record_order, record_take, source_name, binary_source, binary_name}
-use Rattle.wb_sql.specs.Among.{HasTable, tree_named, table_in, names_office, refers_to_none, is_quiet, is_office_name, LacksOffice, IsNumbered, HasOffice}
+use Rattle.wb_sql.specs.Among.{HasTable, HasStates, tree_named, table_in, names_either, refers_to_none, is_quiet, is_office_name, LacksOffice, IsNumbered, HasOffice}
 use Rattle.wb_sql.specs.Making.{with_office, with_arch, with_builder, with_source_record, with_record_order, with_record_take, with_scratch_source, with_source_name, with_scratch_binary, with_binary_source, with_tables}
 use Rattle.wb_sql.proofs.AppendLemmas.{all_so, all_pass, tests_so}
 use Rattle.wb_sql.proofs.FreeLemmas.{office_free}
@@ -29,9 +29,9 @@ pub record IsGrown (base schema : Schema) (tables : List Table) (names : List (L
 
 -- ---- the names of the office
 
--- the names of what is made, from each stage on
+-- the names of what is made, from each stage on, and that of the table of the first schema, which is never made
 abbrev pub from_binary_name : List (List ℕ)
-from_binary_name = binary_name.name ∷ []
+from_binary_name = binary_name.name ∷ source_state.name ∷ []
 
 abbrev pub from_binary_source : List (List ℕ)
 from_binary_source = binary_source.name ∷ from_binary_name
@@ -134,7 +134,7 @@ binary_source_new : (base : Schema) → IsNewIndex binary_source scratch_binary 
 unfolding same_name
 binary_source_new base = record { others = refl; unlike = refl }
 
-binary_name_new : (base : Schema) → IsNewIndex binary_name scratch_binary (before_binaries base) []
+binary_name_new : (base : Schema) → IsNewIndex binary_name scratch_binary (before_binaries base) (source_state.name ∷ [])
 unfolding same_name
 binary_name_new base = record { others = refl; unlike = refl }
 
@@ -151,7 +151,7 @@ module _ (base : Schema) (lacks : LacksOffice base) (numbered : IsNumbered base)
     unreferred = tests_so refers_to_none _ (λ t none. or_right _ _ none) base.tables lacks.unreferred;
     quiet =
         tests_so refers_to_none is_quiet
-        (λ t none. tests_so (λ ref. not (names_office ref.parent)) _ (λ ref other. or_left _ _ other) t.references none) base.tables lacks.unreferred;
+        (λ t none. tests_so (λ ref. not (names_either ref.parent)) _ (λ ref other. or_left _ _ other) t.references none) base.tables lacks.unreferred;
     bounded = let bounded : next_tree base ≤ 65536 = numbered.bounded in omega arith;
     below = numbered.indexes;
   }
@@ -204,10 +204,10 @@ module _ (base : Schema) (lacks : LacksOffice base) (numbered : IsNumbered base)
       index_step base (with_scratch_binary base) (own scratch_binary) binary_source (before_binaries base) from_binary_name 1 binary_stage
       (binary_source_new base).others (binary_source_new base).unlike
 
-  tables_stage : IsStage base (with_tables base) (before_binaries base ++ binaries_in base ∷ []) [] 0
+  tables_stage : IsStage base (with_tables base) (before_binaries base ++ binaries_in base ∷ []) (source_state.name ∷ []) 0
   unfolding with_tables
   tables_stage =
-      index_step base (with_binary_source base) (own_more (with_scratch_binary base) (own scratch_binary) binary_source) binary_name (before_binaries base) [] 0 binary_source_stage
+      index_step base (with_binary_source base) (own_more (with_scratch_binary base) (own scratch_binary) binary_source) binary_name (before_binaries base) (source_state.name ∷ []) 0 binary_source_stage
       (binary_name_new base).others (binary_name_new base).unlike
 
 -- the tables with their indexes are tables
@@ -277,8 +277,8 @@ module _ (base : Schema) (lacks : LacksOffice base) (numbered : IsNumbered base)
       (binary_source_stage base lacks numbered)
 
   -- and its second index
-  pub tables_grown : IsGrown base (with_tables base) (office ∷ arch ∷ builder ∷ source_record ∷ scratch_source ∷ scratch_binary ∷ []) []
-  tables_grown = grown_of base (with_tables base) (before_binaries base ++ binaries_in base ∷ []) [] 0 (tables_stage base lacks numbered)
+  pub tables_grown : IsGrown base (with_tables base) (office ∷ arch ∷ builder ∷ source_record ∷ scratch_source ∷ scratch_binary ∷ []) (source_state.name ∷ [])
+  tables_grown = grown_of base (with_tables base) (before_binaries base ++ binaries_in base ∷ []) (source_state.name ∷ []) 0 (tables_stage base lacks numbered)
 
 -- ---- the office
 
@@ -316,9 +316,17 @@ office_made base lacks numbered =
       source_indexes = p.indexed;
       binary_is = q.has;
       binary_indexes = q.indexed;
+      states = inl (no_table (with_tables base) source_state.name s.free.0);
       unreferred = s.unreferred;
       quiet = s.quiet;
     }
+
+-- and no table of the records of the first schema
+pub made_lacks_states : (base : Schema) → LacksOffice base → IsNumbered base → ¬ HasStates (with_tables base)
+made_lacks_states base lacks numbered h =
+    let none = no_table (with_tables base) source_state.name (tables_stage base lacks numbered).free.0 in
+    let some = h.has.named in
+    cc
 
 -- a schema that lacks the office does not have it
 pub lacks_none : (schema : Schema) → LacksOffice schema → ¬ HasOffice schema

@@ -11,6 +11,7 @@ pub mod CreateLemmas
 pub mod CreatedLemmas
 pub mod DefinitionLemmas
 pub mod EndingLemmas
+pub mod FirstOfficeLemmas
 pub mod FirstRowLemmas
 pub mod FirstSchemaLemmas
 pub mod FormatLemmas
@@ -37,7 +38,6 @@ pub mod SettledLemmas
 pub mod ShownLemmas
 pub mod StageLemmas
 pub mod StepLemmas
-pub mod StillLemmas
 pub mod TestLemmas
 pub mod UpdateLemmas
 pub mod UpgradeLemmas

@@ -10,7 +10,7 @@ use Rattle.sqlite_rules.proofs.ListLemmas.{test_push}
 use Rattle.sqlite_catalog.proofs.SoundLemmas.{lowered}
 use Rattle.sqlite_schema.specs.declared.schema.Index.{Index}
 use Rattle.sqlite_schema.specs.Names.{same_name}
-use Rattle.wb_sql.specs.Among.{HasTable, HasIndexes, table_at, tree_named, table_in, names_office, refers_to_none, are_unreferred, is_quiet, are_quiet}
+use Rattle.wb_sql.specs.Among.{HasTable, HasIndexes, table_at, tree_named, table_in, names_either, refers_to_none, are_unreferred, is_quiet, are_quiet}
 use Rattle.wb_sql.proofs.AppendLemmas.{all_so, all_append, all_split, all_both, all_pass, all_fail}
 use Rattle.wb_sql.proofs.CreatedLemmas.{below_next, views_below, next_within, has_below, created_keeps, created_has, indexed_keeps, created_keeps_indexes, created_has_indexes, indexed_has_indexes, indexed_keeps_indexes, one_name, same_tree, new_tree, created_free, indexed_free, created_counted}
 
@@ -93,7 +93,7 @@ differs table tree name = not (same_name table.name name) && list_all (λ i. not
 pub record IsNew (table : Table) (names : List (List ℕ)) : Type 0 where
   pub uncounted : table.is_counted ≡ false
   pub unlike : (tree : ℕ) → list_all (differs table tree) names ≡ true
-  pub unreferred : (names_office table.name || refers_to_none table) ≡ true
+  pub unreferred : (names_either table.name || refers_to_none table) ≡ true
   pub quiet : is_quiet table ≡ true
   pub narrow : (tree : ℕ) → AllByRecursion (λ i. (i.table < tree + 1) × (i.tree < tree + 2)) (automatics (table_at tree table) 0 (tree + 1) table.uniques)
 

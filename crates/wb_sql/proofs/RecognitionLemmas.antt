@@ -5,9 +5,9 @@ use Rattle.sqlite.specs.Schema.{Schema}
 use Rattle.sqlite.specs.Table.{Table}
 use Rattle.sqlite_schema.specs.declared.schema.Index.{Index}
 use Rattle.sqlite_schema.specs.Names.{table_named}
-use Rattle.wb_sql.specs.Among.{HasTable, HasOffice, table_at, table_in, index_at, are_unreferred, are_quiet}
+use Rattle.wb_sql.specs.Among.{HasTable, HasIndexed, HasOffice, MayHaveStates, table_at, table_in, index_at, treeless, indexes_on, are_unreferred, are_quiet}
 use Rattle.wb_sql.proofs.AloneLemmas.{alone_is, tree_is}
-use Rattle.wb_sql.specs.Recognition.{IsFound, IsAlone, HasIndexed, HasTables, treeless, indexes_on}
+use Rattle.wb_sql.specs.Recognition.{IsFound, IsAlone, HasTables}
 
 -- a tree below 2^31 is stored
 pub stored_is : (tree : ℕ) → nat_lt tree (2 ^ 31) ≡ true → nat_le (2 ^ 31) tree ≡ false
@@ -111,8 +111,8 @@ three_indexes indexes a b c e =
     (h.tree, (r.0, (r.1.0, h.is ∙ ap (λ rest. moved h.tree rest a) r.1.1)))
 
 -- a schema with each of the tables and its indexes, where nothing of others touches them, has the office's tables
-pub office_of : (schema : Schema) → HasTables schema → are_unreferred schema ≡ true → are_quiet schema ≡ true → HasOffice schema
-office_of schema h unreferred quiet =
+pub office_of : (schema : Schema) → HasTables schema → MayHaveStates schema → are_unreferred schema ≡ true → are_quiet schema ≡ true → HasOffice schema
+office_of schema h states unreferred quiet =
     let a = one_index _ _ h.archs_are.indexed in
     let b = one_index _ _ h.builders_are.indexed in
     let r = three_indexes _ _ _ _ h.records_are.indexed in
@@ -132,6 +132,7 @@ office_of schema h unreferred quiet =
       source_indexes = s.1;
       binary_is = h.binaries_are.has;
       binary_indexes = p.1.1;
+      states = states;
       unreferred = unreferred;
       quiet = quiet;
     }

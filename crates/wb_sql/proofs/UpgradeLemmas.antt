@@ -1,5 +1,5 @@
 -- How a schema grows from the tables of the first schema to those of the second.
-use Rattle.std.proofs.Common.{◌≡◌, ◌≢◌, ℕ, ◌<◌, ◌≤◌, ◌^◌, ◌||◌, not, true, false, List, [], ◌∷◌, ◌++◌, refl, sym, ap, subst, ◌∙◌, arith, append-nil, map}
+use Rattle.std.proofs.Common.{◌≡◌, ◌≢◌, ℕ, ◌<◌, ◌≤◌, ◌^◌, ◌||◌, not, true, false, List, [], ◌∷◌, ◌++◌, refl, sym, ap, subst, ◌∙◌, arith, append-nil, map, inr}
 use Rattle.std.specs.List.{AllByRecursion, list_all}
 use Rattle.std.specs.Fmt.{digits}
 use Rattle.std.proofs.lemmas.Bool.{and_parts, not-true}
@@ -8,22 +8,23 @@ use Rattle.sqlite.specs.Schema.{Schema}
 use Rattle.sqlite.specs.Table.{Table}
 use Rattle.sqlite.specs.Change.{created, indexed, next_tree, is_used}
 use Rattle.sqlite.specs.Does.{lacks_sequence}
+use Rattle.sqlite.specs.State.{State}
+use Rattle.sqlite_trees.proofs.ListLemmas.{all-slice_get}
 use Rattle.sqlite_catalog.specs.Listing.{automatic}
 use Rattle.sqlite_rules.proofs.ListLemmas.{test_push}
 use Rattle.sqlite_schema.specs.declared.schema.Index.{Index}
 use Rattle.sqlite_schema.specs.Names.{same_name}
-use Rattle.wb_sql.specs.Among.{HasTable, IsNumbered, index_at, table_at, table_in, tree_named}
-use Rattle.wb_sql.specs.FirstSchema.{source_state, state_order}
-use Rattle.wb_sql.specs.Making.{with_index}
-use Rattle.wb_sql.specs.Recognition.{HasIndexed, indexes_on, treeless}
-use Rattle.wb_sql.specs.Tables.{office, arch, builder, source_record, scratch_source, scratch_binary}
+use Rattle.wb_sql.specs.Among.{HasTable, HasIndexed, HasOffice, HasStates, IsNumbered, rows_in, index_at, table_at, table_in, treeless, indexes_on, tree_named, names_either, refers_to_none, is_quiet}
+use Rattle.wb_sql.specs.Making.{MakesTables, with_index}
+use Rattle.wb_sql.specs.Tables.{office, arch, builder, source_record, source_state, state_order, scratch_source, scratch_binary}
 use Rattle.wb_sql.specs.Tables.{record_order, record_take, source_name, binary_source, binary_name}
-use Rattle.wb_sql.specs.Upgrading.{HasFirstOffice, HasUpgradedOffice, names_either, refers_to_neither, is_still, second_names}
+use Rattle.wb_sql.specs.Upgrading.{HasFirstOffice, second_names}
 use Rattle.wb_sql.specs.Upgrading.{with_second_record, with_second_order, with_second_take, with_second_source, with_second_binary, with_second}
 use Rattle.wb_sql.proofs.AppendLemmas.{all_so, all_append, all_split, all_both, all_pass, all_fail, each_fails}
 use Rattle.wb_sql.proofs.CreatedLemmas.{has_below, created_keeps, created_has, indexed_keeps, created_keeps_indexes, created_has_indexes, indexed_has_indexes, indexed_keeps_indexes, one_name, same_tree, new_tree, created_free, indexed_free, created_counted}
 use Rattle.wb_sql.proofs.GrowthLemmas.{IsGrown}
 use Rattle.wb_sql.proofs.OwnedLemmas.{differs, apart_of}
+use Rattle.wb_sql.proofs.RecognitionLemmas.{office_of}
 
 -- ---- a table with its indexes
 
@@ -279,33 +280,49 @@ module _ (base : Schema) (first : HasFirstOffice base) (numbered : IsNumbered ba
 -- ---- the office
 
 -- the new table is one of the office's, and its one foreign key does nothing
-record_unshared : (tree : ℕ) → (names_either (table_at tree source_record).name || refers_to_neither (table_at tree source_record)) ≡ true
+record_unreferred : (tree : ℕ) → (names_either (table_at tree source_record).name || refers_to_none (table_at tree source_record)) ≡ true
 unfolding same_name
-record_unshared tree = refl
+record_unreferred tree = refl
 
-record_still : (tree : ℕ) → is_still (table_at tree source_record) ≡ true
+record_quiet : (tree : ℕ) → is_quiet (table_at tree source_record) ≡ true
 unfolding same_name
-record_still tree = refl
+record_quiet tree = refl
 
--- the schema with all that is made has the tables of the second schema, and those of the first beside them
-pub office_upgraded : (base : Schema) → HasFirstOffice base → IsNumbered base → HasUpgradedOffice (with_second base)
+-- the schema with all that is made has the office's tables
+pub office_upgraded : (base : Schema) → HasFirstOffice base → IsNumbered base → HasOffice (with_second base)
 office_upgraded base first numbered =
     let stage = second_stage base first numbered in
     let have = stage.have in
-    record {
-      tables = record {
-        office_is = have.0;
-        archs_are = have.1.0;
-        builders_are = have.1.1.0;
-        records_are = have.1.1.1.1.0;
-        sources_are = have.1.1.1.1.1.0;
-        binaries_are = have.1.1.1.1.1.1.0;
-      };
-      states_are = have.1.1.1.0;
-      unshared = subst (λ tables. list_all (λ (t : Table). names_either t.name || refers_to_neither t) tables ≡ true) (sym stage.tables_are)
-          (test_push _ base.tables _ first.unshared (record_unshared (next_tree base)));
-      still = subst (λ tables. list_all is_still tables ≡ true) (sym stage.tables_are) (test_push is_still base.tables _ first.still (record_still (next_tree base)));
-    }
+    office_of (with_second base) (record {
+      office_is = have.0;
+      archs_are = have.1.0;
+      builders_are = have.1.1.0;
+      records_are = have.1.1.1.1.0;
+      sources_are = have.1.1.1.1.1.0;
+      binaries_are = have.1.1.1.1.1.1.0;
+    })
+    (inr have.1.1.1.0)
+    (subst (λ tables. list_all (λ (t : Table). names_either t.name || refers_to_none t) tables ≡ true) (sym stage.tables_are)
+    (test_push _ base.tables _ first.unreferred (record_unreferred (next_tree base))))
+    (subst (λ tables. list_all is_quiet tables ≡ true) (sym stage.tables_are) (test_push is_quiet base.tables _ first.quiet (record_quiet (next_tree base))))
+
+-- the table of the records of the first schema is there
+pub second_has_states : (base : Schema) → HasFirstOffice base → IsNumbered base → HasStates (with_second base)
+second_has_states base first numbered = (second_stage base first numbered).have.1.1.1.0
+
+-- a table that was there stays in its tree
+pub second_keeps_tree : (base : Schema) (table : Table) → HasTable base (table_in base table) → tree_named (with_second base) table.name ≡ tree_named base table.name
+unfolding with_second with_second_binary with_second_source with_second_take with_second_order with_second_record
+second_keeps_tree base table has = same_tree base source_record table has
+
+-- and keeps its rows
+pub second_keeps_rows : (base : Schema) (table : Table) → HasTable base (table_in base table) → (old new : State) → old.now.schema ≡ base
+    → MakesTables base.tables (with_second base) (source_record ∷ []) old new → rows_in new.now table ≡ rows_in old.now table
+second_keeps_rows base table has old new was made =
+    ap (λ (s : Schema). new.now.trees (tree_named s table.name)) made.made.schema_is
+    ∙ (ap new.now.trees (second_keeps_tree base table has)
+    ∙ (all-slice_get (λ t. new.now.trees t.tree ≡ old.now.trees t.tree) base.tables has.at (table_in base table) has.listed made.kept
+    ∙ ap (λ (s : Schema). old.now.trees (tree_named s table.name)) (sym was)))
 
 -- ---- what each CREATE makes of the schema before it
 

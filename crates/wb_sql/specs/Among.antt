@@ -1,5 +1,5 @@
 -- The office's tables in a schema that may have tables, indexes and views of others.
-use Rattle.std.specs.Prelude.{◌≡◌, ℕ, ◌^◌, ◌==◌, ◌≤◌, ◌<◌, nat_le, Bool, true, false, not, ◌||◌, List, [], ◌∷◌, filter, slice_get, Some, option_map, option_and_then, unwrap_or}
+use Rattle.std.specs.Prelude.{◌≡◌, ℕ, ◌^◌, ◌==◌, ◌≤◌, ◌<◌, nat_le, Bool, true, false, not, ◌||◌, List, [], ◌∷◌, ◌++◌, ◌⊎◌, map, filter, slice_get, None, Some, option_map, option_and_then, unwrap_or}
 use Rattle.std.specs.List.{AllByRecursion, list_all, list_any}
 use Rattle.sqlite.specs.Schema.{Schema}
 use Rattle.sqlite.specs.Table.{Table}
@@ -13,7 +13,7 @@ use Rattle.sqlite_schema.specs.Names.{same_name, table_named}
 use Rattle.sqlite_catalog.specs.Listing.{automatic}
 use Rattle.wb_sql.specs.Queries.{TableQuery, Asks}
 use Rattle.wb_sql.specs.Changes.{ReplacesInto, InsertsInto, UpsertsInto, UpdatesIn, DeletesFrom, does_nothing, never_acts_on}
-use Rattle.wb_sql.specs.Tables.{office, arch, builder, source_record, scratch_source, scratch_binary, office_schema}
+use Rattle.wb_sql.specs.Tables.{office, arch, builder, source_record, source_state, state_order, scratch_source, scratch_binary, office_schema}
 use Rattle.wb_sql.specs.OfficeStatements.{record_row, record_sets, record_key}
 use Rattle.wb_sql.specs.Tables.{record_order, record_take, source_name, binary_source, binary_name}
 
@@ -57,6 +57,28 @@ HasIndexes schema tree indexes = filter (λ i. i.table == tree) schema.indexes �
 abbrev pub index_at : ℕ → ℕ → Index → Index
 index_at tree table index = record index { tree = tree; table = table }
 
+-- an index, but for its tree
+abbrev pub treeless : Index → Index
+treeless index = record index { tree = 0 }
+
+-- the indexes on the table in this tree
+abbrev pub indexes_on : ℕ → List Index → List Index
+indexes_on table = filter (λ index. index.table == table)
+
+-- the schema has one of the office's tables, and on it these indexes, in whatever trees, and no other
+pub record HasIndexed (schema : Schema) (table : Table) (indexes : List Index) : Type 0 where
+  pub has : HasTable schema (table_in schema table)
+  pub indexed : map treeless (indexes_on (tree_named schema table.name) schema.indexes) ≡ map (index_at 0 (tree_named schema table.name)) indexes
+
+-- the schema has the table of the records of the first schema, and on it their indexes, in whatever trees, and no other: those of the take number and of the
+-- key, and their order
+abbrev pub HasStates : Schema → Type 0
+HasStates schema = HasIndexed schema source_state (automatic source_state 0 (10 ∷ []) 6 ∷ automatic source_state 1 (1 ∷ 2 ∷ []) 7 ∷ state_order ∷ [])
+
+-- the schema has no table of this name, or has it with its indexes, as an office that was upgraded
+abbrev pub MayHaveStates : Schema → Type 0
+MayHaveStates schema = (table_named schema source_state.name ≡ None) ⊎ HasStates schema
+
 -- the trees of the indexes of the office's tables
 pub record IndexTrees : Type 0 where
   pub arch_key : ℕ
@@ -77,24 +99,28 @@ record_indexes at tree =
 abbrev pub names_office : List ℕ → Bool
 names_office name = list_any (λ table. same_name table.name name) office_schema.tables
 
--- no reference of the table is to one of the office's tables
+-- the name of one of the office's tables, of the first schema or of the second
+abbrev pub names_either : List ℕ → Bool
+names_either name = names_office name || same_name source_state.name name
+
+-- no reference of the table is to one of these
 abbrev pub refers_to_none : Table → Bool
-refers_to_none table = list_all (λ ref. not (names_office ref.parent)) table.references
+refers_to_none table = list_all (λ ref. not (names_either ref.parent)) table.references
 
--- no table but those of the office refers to one of them
+-- no table but these refers to one of them
 abbrev pub are_unreferred : Schema → Bool
-are_unreferred schema = list_all (λ table. names_office table.name || refers_to_none table) schema.tables
+are_unreferred schema = list_all (λ table. names_either table.name || refers_to_none table) schema.tables
 
--- each foreign key of the table that refers to one of the office's tables does nothing
+-- each foreign key of the table that refers to one of these does nothing
 abbrev pub is_quiet : Table → Bool
-is_quiet table = list_all (λ ref. not (names_office ref.parent) || does_nothing ref) table.references
+is_quiet table = list_all (λ ref. not (names_either ref.parent) || does_nothing ref) table.references
 
--- each foreign key of the schema that refers to one of the office's tables does nothing
+-- each foreign key of the schema that refers to one of these does nothing
 abbrev pub are_quiet : Schema → Bool
 are_quiet schema = list_all is_quiet schema.tables
 
--- the schema has the office's tables with their indexes, beside tables, indexes and views of others; no table of others refers to them, and no foreign
--- key that refers to one of them does anything
+-- the schema has the office's tables with their indexes, beside tables, indexes and views of others, and the table of the records of the first schema if it was
+-- upgraded; no table of others refers to them, and no foreign key that refers to one of them does anything
 pub record HasOffice (schema : Schema) : Type 0 where
   pub at : IndexTrees
   pub office_is : HasTable schema (table_in schema office)
@@ -111,12 +137,13 @@ pub record HasOffice (schema : Schema) : Type 0 where
   pub binary_indexes :
       HasIndexes schema (tree_named schema scratch_binary.name)
       (index_at at.binary_source (tree_named schema scratch_binary.name) binary_source ∷ index_at at.binary_name (tree_named schema scratch_binary.name) binary_name ∷ [])
+  pub states : MayHaveStates schema
   pub unreferred : are_unreferred schema ≡ true
   pub quiet : are_quiet schema ≡ true
 
--- the name of one of the office's tables or of their indexes
+-- the name of one of the office's tables or of their indexes, of either schema
 abbrev pub is_office_name : List ℕ → Bool
-is_office_name name = names_office name || list_any (λ index. same_name index.name name) office_schema.indexes
+is_office_name name = names_either name || list_any (λ index. same_name index.name name) (office_schema.indexes ++ state_order ∷ [])
 
 -- no table, index or view of the schema has one of these names
 pub record HasFreeNames (schema : Schema) : Type 0 where

@@ -1,38 +1,15 @@
 -- The tables of the first schema, in a store of format 1: the records in a table of their own form, and the scratch tables without an index.
-use Rattle.std.specs.Prelude.{◌≡◌, ℕ, false, List, [], ◌∷◌, None, codes, pos}
-use Rattle.sqlite.specs.Kind.TheVariants.{Integer, Text}
+use Rattle.std.specs.Prelude.{◌≡◌, ℕ, List, [], ◌∷◌, None, pos}
 use Rattle.sqlite.specs.Schema.{Schema}
 use Rattle.sqlite.specs.Table.{Table}
 use Rattle.sqlite.specs.Term.{Term, lit}
 use Rattle.sqlite.specs.declared.types.Value.TheVariants.{Null, Int}
-use Rattle.sqlite_schema.specs.declared.schema.Index.{Index}
 use Rattle.sqlite_catalog.specs.Listing.{automatic}
 use Rattle.sqlite_value.specs.Keys.{plain}
 use Rattle.wb_sql.specs.Queries.{TableQuery}
 use Rattle.wb_sql.specs.OfficeStatements.{cell, no_limit, none_skipped, rising}
-use Rattle.wb_sql.specs.Recognition.{HasIndexed}
-use Rattle.wb_sql.specs.Tables.{bare, index_on, names_arch, number, text, typed, office, arch, builder, scratch_source, scratch_binary}
-
--- the records of the first schema, by architecture and source package, and by take number
-abbrev pub source_state : Table
-source_state = record (bare (codes "source_state") 5
-    (text (codes "arch") ∷ text (codes "source") ∷ number (codes "state") ∷ text (codes "version") ∷ text (codes "priority") ∷ text (codes "section") ∷ number (codes "earlier")
-    ∷ number (codes "number") ∷ typed Text false (codes "holder") ∷ typed Integer false (codes "take") ∷ text (codes "waits") ∷ typed Text false (codes "depends") ∷ text (codes "note")
-    ∷ text (codes "message") ∷ number (codes "rank") ∷ [])) {
-      primary = 1 ∷ 2 ∷ [];
-      uniques = (10 ∷ []) ∷ (1 ∷ 2 ∷ []) ∷ [];
-      orders = plain ∷ plain ∷ [];
-      references = names_arch 1 ∷ [];
-    }
-
--- these records by architecture, state, rank and source package
-abbrev pub state_order : Index
-state_order = index_on (codes "queue_order") 8 5 (1 ∷ 3 ∷ 15 ∷ 2 ∷ [])
-
--- the schema has the table of these records, and on it their indexes, in whatever trees, and no other: those of the take number and of the key, and the one
--- above
-abbrev pub HasStates : Schema → Type 0
-HasStates schema = HasIndexed schema source_state (automatic source_state 0 (10 ∷ []) 6 ∷ automatic source_state 1 (1 ∷ 2 ∷ []) 7 ∷ state_order ∷ [])
+use Rattle.wb_sql.specs.Among.{HasIndexed, HasStates}
+use Rattle.wb_sql.specs.Tables.{office, arch, builder, scratch_source, scratch_binary}
 
 -- the schema has each of the tables of the first schema, and on each its indexes, in whatever trees, and no other
 pub record HasFirstTables (schema : Schema) : Type 0 where

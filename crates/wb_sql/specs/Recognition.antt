@@ -18,7 +18,7 @@ use Rattle.wb_sql.specs.declared.columns.IndexDefinition.{IndexDefinition}
 use Rattle.sqlite_catalog.specs.Listing.{automatic}
 use Rattle.wb_sql.specs.Tables.{index_on, typed, office, arch, builder, source_record, scratch_source, scratch_binary}
 use Rattle.wb_sql.specs.Tables.{record_order, record_take, source_name, binary_source, binary_name}
-use Rattle.wb_sql.specs.Among.{HasTable, table_in, tree_named, index_at}
+use Rattle.wb_sql.specs.Among.{HasIndexed}
 
 -- the column that is defined so
 abbrev pub column_of : ColumnDefinition → Column
@@ -27,14 +27,6 @@ column_of definition = typed definition.kind definition.not_null definition.name
 -- the columns that are defined so
 abbrev pub columns_of : List ColumnDefinition → List Column
 columns_of = map column_of
-
--- an index, but for its tree
-abbrev pub treeless : Index → Index
-treeless index = record index { tree = 0 }
-
--- the indexes on the table in this tree
-abbrev pub indexes_on : ℕ → List Index → List Index
-indexes_on table = filter (λ index. index.table == table)
 
 -- the index of a key, which comes once, on this table, but for its tree
 abbrev pub key_on : List ℕ → ℕ → List ℕ → Index
@@ -60,11 +52,6 @@ pub record IsFound (schema : Schema) (name : List ℕ) (table : Table) : Type 0 
   pub listed : slice_get schema.tables at ≡ Some table
   pub in_tree : filter (λ t. t.tree == table.tree) schema.tables ≡ table ∷ []
   pub stored : nat_le (2 ^ 31) table.tree ≡ false
-
--- the schema has one of the office's tables, and on it these indexes, in whatever trees, and no other
-pub record HasIndexed (schema : Schema) (table : Table) (indexes : List Index) : Type 0 where
-  pub has : HasTable schema (table_in schema table)
-  pub indexed : map treeless (indexes_on (tree_named schema table.name) schema.indexes) ≡ map (index_at 0 (tree_named schema table.name)) indexes
 
 -- the schema has each of the office's tables, and on each its indexes, in whatever trees, and no other
 pub record HasTables (schema : Schema) : Type 0 where

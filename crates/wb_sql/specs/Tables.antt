@@ -127,6 +127,22 @@ binary_source = index_on (codes "binary_source") 12 11 (4 ∷ 0 ∷ [])
 abbrev pub binary_name : Index
 binary_name = index_on (codes "binary_name") 13 11 (2 ∷ 0 ∷ [])
 
+-- the records of the first schema, by architecture and source package, and by take number
+abbrev pub source_state : Table
+source_state = record (bare (codes "source_state") 5
+    (text (codes "arch") ∷ text (codes "source") ∷ number (codes "state") ∷ text (codes "version") ∷ text (codes "priority") ∷ text (codes "section") ∷ number (codes "earlier")
+    ∷ number (codes "number") ∷ typed Text false (codes "holder") ∷ typed Integer false (codes "take") ∷ text (codes "waits") ∷ typed Text false (codes "depends") ∷ text (codes "note")
+    ∷ text (codes "message") ∷ number (codes "rank") ∷ [])) {
+      primary = 1 ∷ 2 ∷ [];
+      uniques = (10 ∷ []) ∷ (1 ∷ 2 ∷ []) ∷ [];
+      orders = plain ∷ plain ∷ [];
+      references = names_arch 1 ∷ [];
+    }
+
+-- these records by architecture, state, rank and source package
+abbrev pub state_order : Index
+state_order = index_on (codes "queue_order") 8 5 (1 ∷ 3 ∷ 15 ∷ 2 ∷ [])
+
 -- the schema of these tables and indexes, without a view
 abbrev pub schema_of : List Table → List Index → Schema
 schema_of tables indexes = record { tables = tables; indexes = indexes; views = [] }

@@ -5,10 +5,10 @@ ghost use Rattle.sqlite.specs.Does.{lacks_sequence};
 ghost use Rattle.sqlite.specs.Table.{Table};
 ghost use Rattle.sqlite_schema.specs.Names.{same_name};
 ghost use Rattle.wb_sql.specs.Changes.{does_nothing, is_no_action};
-ghost use Rattle.wb_sql.specs.Among.{names_office, is_office_name, HasFreeNames};
+ghost use Rattle.wb_sql.specs.Among.{names_either, names_office, is_office_name, HasFreeNames};
 ghost use Rattle.wb_sql.specs.Among.{refers_to_none, are_unreferred, is_quiet, are_quiet};
 ghost use Rattle.wb_sql.specs.Recognition.{IsFound, IsAlone};
-ghost use Rattle.wb_sql.specs.Tables.{keys, record_order, record_take, source_name, binary_source, binary_name};
+ghost use Rattle.wb_sql.specs.Tables.{keys, record_order, record_take, source_name, binary_source, binary_name, state_order};
 
 use sqlite_schema::names::same_name;
 use sqlite_schema::schema::{Action, Reference, Schema, Table};
@@ -47,30 +47,30 @@ fn count_in_tree(tables: &[Table], tree: u32) -> usize
     tables.iter().filter(|table| table.tree == tree).count()
 }
 
-/// Whether no table but the office's refers to one of the office's.
+/// Whether no table but the office's, of either schema, refers to one of them.
 pub(crate) fn are_unreferred(schema: &Schema) -> bool
     ensures value { result ≡ are_unreferred schema.now }
 {
     let tables = schema.tables.as_slice();
-    tables.iter().all(|table| names_office(table.name.as_slice()) || refers_to_none(table))
+    tables.iter().all(|table| names_either(table.name.as_slice()) || refers_to_none(table))
 }
 
-/// Whether each foreign key that refers to one of the office's tables does nothing where the row that it names is deleted
-/// or gets another key.
+/// Whether each foreign key that refers to one of the office's tables, of either schema, does nothing where the row that it
+/// names is deleted or gets another key.
 pub(crate) fn are_quiet(schema: &Schema) -> bool
     ensures value { result ≡ are_quiet schema.now }
 {
     schema.tables.as_slice().iter().all(is_quiet)
 }
 
-/// Whether no table, index or view has one of the office's names.
+/// Whether no table, index or view has one of the office's names, of either schema.
 pub(crate) fn has_free_names(schema: &Schema) -> bool
     ensures value { IsTrue result ↔ HasFreeNames schema.now }
 {
     !has_table(schema) && !has_index(schema) && !has_view(schema)
 }
 
-/// Whether no table refers to one of the office's.
+/// Whether no table refers to one of the office's, of either schema.
 pub(crate) fn refers_nowhere(schema: &Schema) -> bool
     ensures value { result ≡ list_all refers_to_none schema.now.tables }
 {
@@ -125,18 +125,18 @@ fn has_view(schema: &Schema) -> bool
         .any(|view| is_office_name(view.name.as_slice()))
 }
 
-/// Whether the table refers to none of the office's.
+/// Whether the table refers to none of the office's, of either schema.
 fn refers_to_none(table: &Table) -> bool
     ensures value { result ≡ refers_to_none table.now }
 {
     let references = table.references.as_slice();
     references
         .iter()
-        .all(|reference| !names_office(reference.parent.as_slice()))
+        .all(|reference| !names_either(reference.parent.as_slice()))
 }
 
 /// Whether it is the name of one of the office's tables.
-pub(crate) fn names_office(name: &[u8]) -> bool
+fn names_office(name: &[u8]) -> bool
     ensures value { result ≡ names_office name.now }
 {
     same_name(b"office", name)
@@ -147,11 +147,18 @@ pub(crate) fn names_office(name: &[u8]) -> bool
         || same_name(b"scratch_binary", name)
 }
 
-/// Whether it is the name of one of the office's tables or of their indexes.
+/// Whether it is the name of one of the office's tables, of the first schema or of the second.
+fn names_either(name: &[u8]) -> bool
+    ensures value { result ≡ names_either name.now }
+{
+    names_office(name) || same_name(b"source_state", name)
+}
+
+/// Whether it is the name of one of the office's tables or of their indexes, of either schema.
 fn is_office_name(name: &[u8]) -> bool
     ensures value { result ≡ is_office_name name.now }
 {
-    names_office(name) || names_key(name) || names_index(name)
+    names_either(name) || names_key(name) || names_index(name)
 }
 
 /// Whether it is the name of the index of a key of one of the office's tables.
@@ -163,30 +170,31 @@ fn names_key(name: &[u8]) -> bool
         || same_name(b"sqlite_autoindex_source_record_1", name)
 }
 
-/// Whether it is the name of another index of one of the office's tables.
+/// Whether it is the name of another index of one of the office's tables, of either schema.
 fn names_index(name: &[u8]) -> bool
     ensures value { result ≡ list_any (λ index. same_name index.name name.now)
-        (record_order ∷ record_take ∷ source_name ∷ binary_source ∷ binary_name ∷ []) }
+        (record_order ∷ record_take ∷ source_name ∷ binary_source ∷ binary_name ∷ state_order ∷ []) }
 {
     same_name(b"record_order", name)
         || same_name(b"record_take", name)
         || same_name(b"source_name", name)
         || same_name(b"binary_source", name)
         || same_name(b"binary_name", name)
+        || same_name(b"queue_order", name)
 }
 
-/// Whether each foreign key of the table that refers to one of the office's tables does nothing.
+/// Whether each foreign key of the table that refers to one of the office's, of either schema, does nothing.
 fn is_quiet(table: &Table) -> bool
     ensures value { result ≡ is_quiet table.now }
 {
     let references = table.references.as_slice();
     references.iter().all(|reference| {
-        !names_office(reference.parent.as_slice()) || does_nothing(reference)
+        !names_either(reference.parent.as_slice()) || does_nothing(reference)
     })
 }
 
 /// Whether the foreign key does nothing.
-pub(crate) fn does_nothing(reference: &Reference) -> bool
+fn does_nothing(reference: &Reference) -> bool
     ensures value { result ≡ does_nothing reference.now }
 {
     is_no_action(reference.on_delete) && is_no_action(reference.on_update)

@@ -4,7 +4,8 @@ ghost use Rattle.sqlite_value.specs.Keys.{plain};
 ghost use Rattle.wb_sql.specs.FirstSchema.{IsKeyedBeside};
 ghost use Rattle.wb_sql.specs.Tables.{names_arch, office};
 ghost use Rattle.wb_sql.specs.Recognition.{column_of, columns_of, index_of, indexes_of};
-ghost use Rattle.wb_sql.specs.Recognition.{indexes_on, treeless, IsTable, IsKeyedById, IsKeyedBy};
+ghost use Rattle.wb_sql.specs.Among.{indexes_on, treeless};
+ghost use Rattle.wb_sql.specs.Recognition.{IsTable, IsKeyedById, IsKeyedBy};
 
 use crate::columns::{ColumnDefinition, IndexDefinition};
 use sqlite_schema::code::Terms;

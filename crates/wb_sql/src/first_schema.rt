@@ -1,12 +1,10 @@
 //! The tables of the first schema, which a store of format 1 has: how they are recognized, and the statements on them.
 //! None of these tables is made by this program.
 ghost use Rattle.std.specs.Prelude.{◌≡◌, ◌↔◌, IsTrue, []};
-ghost use Rattle.wb_sql.specs.Among.{AsksAmong, DeletesAmong, UpdatesAmong, table_at};
-ghost use Rattle.wb_sql.specs.FirstSchema.{HasFirstTables, HasStates, source_state, state_order};
-ghost use Rattle.wb_sql.specs.FirstSchema.{all_states, first_state, second_format};
+ghost use Rattle.wb_sql.specs.Among.{AsksAmong, DeletesAmong, HasIndexed, HasStates, UpdatesAmong, table_at};
+ghost use Rattle.wb_sql.specs.FirstSchema.{HasFirstTables, all_states, first_state, second_format};
 ghost use Rattle.wb_sql.specs.Making.{CreatesAmong, IndexesAmong};
-ghost use Rattle.wb_sql.specs.Recognition.{HasIndexed};
-ghost use Rattle.wb_sql.specs.Tables.{office, scratch_source, scratch_binary};
+ghost use Rattle.wb_sql.specs.Tables.{office, source_state, state_order, scratch_source, scratch_binary};
 
 use crate::beside::find_table;
 use crate::columns::{index_on, key_on, number, optional, text};
@@ -31,8 +29,10 @@ pub fn has_first_tables(schema: &Schema) -> bool
         && has_bare_binaries(schema)
 }
 
-/// Whether the schema has the table of the records of the first schema, with its three indexes alone.
-pub(crate) fn has_states(schema: &Schema) -> bool
+/// Whether the schema has the table `source_state`, of the records of the first schema, with its three indexes alone. In
+/// which trees they are does not matter, nor what its rows are. An office that was upgraded keeps that table. The schema of
+/// a connection is `Connection::schema` (this project's own).
+pub fn has_states(schema: &Schema) -> bool
     ensures value { IsTrue result ↔ HasStates schema.now }
 {
     let Some(table) = find_table(schema, "source_state") else {

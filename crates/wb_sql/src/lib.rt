@@ -23,11 +23,11 @@ mod upgrading;
 
 pub use changes::{delete, insert, replace, update, upsert};
 pub use files::{close, open, surrender};
-pub use first_schema::has_first_tables;
+pub use first_schema::{has_first_tables, has_states};
 pub use format::has_format_column;
 pub use making::{make_empty_office, make_tables};
 pub use reading::read;
 pub use recognition::{has_office_tables, lacks_office};
 pub use savepoints::{back_to, release, save};
 pub use transaction::{CommitError, begin, commit, execute, is_usable, roll_back};
-pub use upgrading::{has_first_office_tables, has_upgraded_office_tables, make_second_tables};
+pub use upgrading::{has_first_office_tables, make_second_tables};

@@ -3,8 +3,8 @@ ghost use Rattle.std.specs.Prelude.{◌≡◌, ◌↔◌, IsTrue, [], ◌∷◌}
 ghost use Rattle.sqlite_catalog.specs.Listing.{automatic};
 ghost use Rattle.wb_sql.specs.Tables.{office, arch, builder, source_record, scratch_source, scratch_binary};
 ghost use Rattle.wb_sql.specs.Tables.{record_order, record_take, source_name, binary_source, binary_name};
-ghost use Rattle.wb_sql.specs.Among.{HasOffice, LacksOffice, table_at};
-ghost use Rattle.wb_sql.specs.Recognition.{HasIndexed, HasTables};
+ghost use Rattle.wb_sql.specs.Among.{HasIndexed, HasOffice, LacksOffice, MayHaveStates, table_at};
+ghost use Rattle.wb_sql.specs.Recognition.{HasTables};
 
 use crate::beside::{
     are_quiet, are_unreferred, find_table, has_free_names, has_sequence, refers_nowhere,
@@ -13,12 +13,13 @@ use crate::columns::{index_on, key_on, number, optional, text};
 use crate::comparison::{
     are_indexes, is_free, is_keyed_by, is_keyed_by_id, is_table, refers_to_arch,
 };
+use crate::first_schema::has_states;
 use crate::id_check::is_id_check;
 use sqlite_schema::schema::{Kind, Schema, Table};
 
 /// Whether an office can be made in the schema by [`crate::make_empty_office`]: it has no table, index or view of a name that the
-/// office's tables or their indexes have, where ASCII letters of either case are the same, and no table that refers to
-/// one of the office's. A schema with a table that counts its rowids (AUTOINCREMENT) must also have the table
+/// office's tables or their indexes have, in the first schema or in the second, where ASCII letters of either case are the
+/// same, and no table that refers to one of the office's. A schema with a table that counts its rowids (AUTOINCREMENT) must also have the table
 /// `sqlite_sequence`, as SQLite makes it. The schema of a connection is `Connection::schema` (this project's own).
 pub fn lacks_office(schema: &Schema) -> bool
     ensures value { IsTrue result ↔ LacksOffice schema.now }
@@ -28,17 +29,33 @@ pub fn lacks_office(schema: &Schema) -> bool
 
 /// Whether the schema has the office's six tables, `office`, `arch`, `builder`, `source_record`, `scratch_source` and
 /// `scratch_binary`, each as [`crate::make_empty_office`] makes it and with the indexes that it makes. In which order and in which
-/// trees they are does not matter, nor what their rows are, and other tables, indexes and views may stand beside them.
-/// The answer is false where another index is on one of them, and where a table of others refers to one of them. The
-/// schema of a connection is `Connection::schema` (this project's own).
+/// trees they are does not matter, nor what their rows are, and other tables, indexes and views may stand beside them. A
+/// table `source_state` is the one of the first schema, which stays where a store of that schema was upgraded
+/// ([`crate::make_second_tables`]). The answer is false where another index is on one of them, and where a table of others
+/// refers to one of them. The schema of a connection is `Connection::schema` (this project's own).
 pub fn has_office_tables(schema: &Schema) -> bool
     ensures value { IsTrue result ↔ HasOffice schema.now }
 {
-    has_tables(schema) && are_unreferred(schema) && are_quiet(schema)
+    has_own_tables(schema) && are_unreferred(schema) && are_quiet(schema)
+}
+
+/// Whether the schema has each of the office's tables, with its indexes alone, and so that of the records of the first
+/// schema, if there is one of its name.
+fn has_own_tables(schema: &Schema) -> bool
+    ensures value { IsTrue result ↔ (HasTables schema.now × MayHaveStates schema.now) }
+{
+    has_tables(schema) && may_have_states(schema)
+}
+
+/// Whether the schema has no table of the records of the first schema, or has it with its indexes alone.
+fn may_have_states(schema: &Schema) -> bool
+    ensures value { IsTrue result ↔ MayHaveStates schema.now }
+{
+    schema.table_named(b"source_state").is_none() || has_states(schema)
 }
 
 /// Whether the schema has each of the office's tables, with its indexes alone.
-pub(crate) fn has_tables(schema: &Schema) -> bool
+fn has_tables(schema: &Schema) -> bool
     ensures value { IsTrue result ↔ HasTables schema.now }
 {
     has_office(schema)

@@ -3,7 +3,7 @@ use Rattle.std.specs.Prelude.{ℕ, List, codes}
 use Rattle.wb_states.specs.declared.store_fault.StoreFault.{StoreFault}
 use Rattle.wb_states.specs.declared.store_fault.StoreFault.TheVariants.{NotOffice, NewerSchema, Damaged, Memory, Device}
 use Rattle.wb_states.specs.declared.store_fault.Table.{Table}
-use Rattle.wb_states.specs.declared.store_fault.Table.TheVariants.{Office, Arch, Builder, SourceRecord, ScratchSource, ScratchBinary}
+use Rattle.wb_states.specs.declared.store_fault.Table.TheVariants.{Office, Arch, Builder, SourceRecord, ScratchSource, ScratchBinary, SourceState}
 
 -- the name of a table
 abbrev pub name_of_table : Table → List ℕ
@@ -13,6 +13,7 @@ name_of_table Builder = codes "builder"
 name_of_table SourceRecord = codes "source_record"
 name_of_table ScratchSource = codes "scratch_source"
 name_of_table ScratchBinary = codes "scratch_binary"
+name_of_table SourceState = codes "source_state"
 
 -- the number of a fault
 abbrev pub code_of_store_fault : StoreFault → ℕ

@@ -20,6 +20,8 @@ pub enum Table {
     ScratchSource,
     /// The paragraphs of a Packages list while a merge runs.
     ScratchBinary,
+    /// The records of a store of the first schema, which has no row once the store was upgraded.
+    SourceState,
 }
 
 impl Table {
@@ -34,6 +36,7 @@ impl Table {
             Table::SourceRecord => "source_record",
             Table::ScratchSource => "scratch_source",
             Table::ScratchBinary => "scratch_binary",
+            Table::SourceState => "source_state",
         }
     }
 }

@@ -22,7 +22,7 @@ use Rattle.wb_states.specs.Machine.{Machine, IsArch, IsConsistent}
 use Rattle.wb_rows.specs.Cells.{arch_cells}
 use Rattle.wb_rows.proofs.CellsLemmas.{arch_cells-same}
 use Rattle.wb_store.specs.Merging.{Scratch}
-use Rattle.wb_store.specs.Stands.{StandsWith}
+use Rattle.wb_store.specs.Stands.{HasArchsOf, StandsWith}
 use Rattle.wb_store.specs.Lookups.{AreArchs, AreRowsOf, FirstWords, IsReadableArch}
 use Rattle.wb_store.proofs.EqualLemmas.{are_equal, and_true, equal-Text}
 use Rattle.wb_store.proofs.FormLemmas.{kept_arch_formed, kept_arch_readable}
@@ -83,7 +83,7 @@ skips_archs : (params : Row) → SkipsRowid sql.all_archs params
 skips_archs params [] = (refl, refl)
 skips_archs params (x ∷ row) = (refl, refl)
 
-module _ (machine : Machine) {scratch : Scratch} (db : Database) (stands : StandsWith machine scratch db) (answer : List Row) (a : Answers sql.all_archs [] (rows_in db tables.arch) answer) where
+module _ (machine : Machine) (db : Database) (has : HasArchsOf machine db) (answer : List Row) (a : Answers sql.all_archs [] (rows_in db tables.arch) answer) where
   abbrev archs : List (List ℕ × OsCpu)
   archs = finite.entries machine.archs
 
@@ -95,7 +95,7 @@ module _ (machine : Machine) {scratch : Scratch} (db : Database) (stands : Stand
   -- the answer has the row of each architecture
   pub archs_answer : answer ≡ map arch_cells archs
   archs_answer =
-      rising_answer arch_cells sql.all_archs [] (skips_archs []) (λ x. refl) refl archs (rows_in db tables.arch) answer stands.archs a archs ascend
+      rising_answer arch_cells sql.all_archs [] (skips_archs []) (λ x. refl) refl archs (rows_in db tables.arch) answer has a archs ascend
       (IsPermutation-same _ _ (sym (filter_all (λ x. true) archs (all_of (λ x. true ≡ true) (λ x. refl) archs)))) refl
 
   -- the architectures that are read from the answer
@@ -105,11 +105,11 @@ module _ (machine : Machine) {scratch : Scratch} (db : Database) (stands : Stand
   -- the answer has rows of architectures alone, if the office is consistent
   pub archs_readable : IsConsistent machine → AreArchs answer
   archs_readable sound =
-      whole_fits arch_cells sql.all_archs [] (skips_archs []) (λ x. refl) refl archs (rows_in db tables.arch) answer stands.archs a IsReadableArch
+      whole_fits arch_cells sql.all_archs [] (skips_archs []) (λ x. refl) refl archs (rows_in db tables.arch) answer has a IsReadableArch
       (all_from_in IsReadableArch archs (kept_arch_readable machine sound)) refl
 
   -- and of architectures with their forms
   pub archs_formed : IsConsistent machine → AreRowsOf arch_cells (λ (x : List ℕ × OsCpu). IsArch x.0 x.1) answer
   archs_formed sound =
-      whole_fits arch_cells sql.all_archs [] (skips_archs []) (λ x. refl) refl archs (rows_in db tables.arch) answer stands.archs a (λ x. IsArch x.0 x.1)
+      whole_fits arch_cells sql.all_archs [] (skips_archs []) (λ x. refl) refl archs (rows_in db tables.arch) answer has a (λ x. IsArch x.0 x.1)
       (all_from_in (λ x. IsArch x.0 x.1) archs (kept_arch_formed machine sound)) refl

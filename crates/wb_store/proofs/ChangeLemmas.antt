@@ -36,13 +36,13 @@ use Rattle.wb_sql.proofs.WriteLemmas.{inserts_writes, deletes_writes}
 use Rattle.wb_sql.proofs.UpsertLemmas.{upserts_writes}
 use Rattle.wb_sql.proofs.UpdateLemmas.{updates_writes}
 use Rattle.wb_sql.proofs.QuietLemmas.{office_quiet, arch_quiet, builder_quiet, record_quiet}
-use Rattle.wb_sql.specs.Tables.{office, arch, builder, source_record, scratch_source, scratch_binary}
-use Rattle.wb_sql.specs.Among.{HasTable, HasOffice, InsertsAmong, UpsertsRecords, UpdatesAmong, DeletesAmong, table_in, tree_named, rows_in}
+use Rattle.wb_sql.specs.Tables.{office, arch, builder, source_record, source_state, scratch_source, scratch_binary}
+use Rattle.wb_sql.specs.Among.{HasTable, HasOffice, HasStates, InsertsAmong, UpsertsRecords, UpdatesAmong, DeletesAmong, table_in, tree_named, rows_in}
 use Rattle.wb_sql.specs.OfficeStatements.{office_sets, arch_row as arch_terms, builder_row as builder_terms, record_row as record_terms, record_sets, record_key, has_record_key}
 use Rattle.wb_sql.proofs.RecordLemmas.{arch_typed, builder_typed}
 use Rattle.wb_rows.specs.Cells.{record_cells, arch_cells, builder_cells, number}
 use Rattle.wb_store.specs.Merging.{Scratch, no_merge, stored_source, stored_binary}
-use Rattle.wb_store.specs.Stands.{HoldsRows, StandsWith, office_row, record_rows, arch_rows, builder_rows, builder_pairs}
+use Rattle.wb_store.specs.Stands.{AreEmptied, HoldsRows, StandsWith, office_row, record_rows, arch_rows, builder_rows, builder_pairs}
 use Rattle.wb_store.specs.Calls.{BecomesWith, Changes, FailsToWrite}
 use Rattle.wb_store.specs.Faults.{answer_on}
 use Rattle.wb_store.specs.Writes as write
@@ -110,6 +110,11 @@ module _ {machine : Machine} {scratch : Scratch} {old new : State} (stands : Sta
   pub still_binaries : length scratch_binary.columns ≢ length table.columns → rows_in new.now scratch_binary ≡ map stored_binary scratch.binaries
   still_binaries differ = other_rows old new table rows scratch_binary is made stands.has.binary_is differ ∙ stands.binaries
 
+  pub still_emptied : length source_state.columns ≢ length table.columns → AreEmptied new.now
+  still_emptied differ states =
+      let there : HasStates old.now.schema = subst HasStates made.schema states in
+      other_rows old new table rows source_state is made there.has differ ∙ stands.emptied there
+
 -- the rows of an office's table, after a change that kept the schema
 moved : (old new : State) (t : Table) (columns : List Row) → new.now.schema ≡ old.now.schema → HoldsRows columns (new.now.trees (tree_named old.now.schema t.name)) → HoldsRows columns (rows_in new.now t)
 moved old new t columns same = subst (λ (s : Schema). HoldsRows columns (new.now.trees (tree_named s t.name))) (sym same)
@@ -152,6 +157,7 @@ module _ (sql : List ℕ) (machine : Machine) {scratch : Scratch} (old new : Sta
           sources = still_sources stands (table_in schema office) rows stands.has.office_is made (λ e. omega (arith, e));
           binaries = still_binaries stands (table_in schema office) rows stands.has.office_is made (λ e. omega (arith, e));
           order = stands.order;
+          emptied = still_emptied stands (table_in schema office) rows stands.has.office_is made (λ e. omega (arith, e));
         };
         schema_is = made.schema;
         shown = made.shown;
@@ -182,6 +188,7 @@ module _ (sql : List ℕ) (machine : Machine) {scratch : Scratch} (old new : Sta
           sources = still_sources stands (table_in schema arch) _ stands.has.arch_is made (λ e. omega (arith, e));
           binaries = still_binaries stands (table_in schema arch) _ stands.has.arch_is made (λ e. omega (arith, e));
           order = stands.order;
+          emptied = still_emptied stands (table_in schema arch) _ stands.has.arch_is made (λ e. omega (arith, e));
         };
         schema_is = made.schema;
         shown = made.shown;
@@ -212,6 +219,7 @@ module _ (sql : List ℕ) (machine : Machine) {scratch : Scratch} (old new : Sta
           sources = still_sources stands (table_in schema builder) _ stands.has.builder_is made (λ e. omega (arith, e));
           binaries = still_binaries stands (table_in schema builder) _ stands.has.builder_is made (λ e. omega (arith, e));
           order = stands.order;
+          emptied = still_emptied stands (table_in schema builder) _ stands.has.builder_is made (λ e. omega (arith, e));
         };
         schema_is = made.schema;
         shown = made.shown;
@@ -234,6 +242,7 @@ module _ (sql : List ℕ) (machine : Machine) {scratch : Scratch} (old new : Sta
           sources = still_sources stands (table_in schema source_record) rows stands.has.record_is made (λ e. omega (arith, e));
           binaries = still_binaries stands (table_in schema source_record) rows stands.has.record_is made (λ e. omega (arith, e));
           order = stands.order;
+          emptied = still_emptied stands (table_in schema source_record) rows stands.has.record_is made (λ e. omega (arith, e));
         };
         schema_is = made.schema;
         shown = made.shown;

@@ -2,6 +2,7 @@
 use Rattle.std.proofs.Common.{◌≡◌, inl, inr, ℕ, suc, List, [], ◌∷◌, ◌++◌, length, map, Result, Ok, Err, IfOk, IfErr, IsErrAnd, Vec, refl, sym, ap, subst, ◌∙◌}
 use Rattle.std.specs.List.{AllByRecursion}
 use Rattle.std.specs.FinMap as finite
+use Rattle.sqlite.specs.Effect.{Database}
 use Rattle.sqlite.specs.Held.{Held, state}
 use Rattle.sqlite.specs.Order.{Row}
 use Rattle.sqlite_trees.specs.declared.store.Store.{Ghosts}
@@ -16,12 +17,12 @@ use Rattle.wb_rows.specs.Reading.{IsNoArch}
 use Rattle.wb_store.specs.Faults.{IsBadRow}
 use Rattle.wb_store.specs.Lookups.{AreRowsOf, ReadsTable}
 use Rattle.wb_store.specs.Checks.{AreBadRows, HoldsArchs, IsFirstBad, IsFormedArch, IsRowOf, Passes, PassesWith, Tests}
-use Rattle.wb_store.specs.Stands.{StandsFor}
+use Rattle.wb_store.specs.Stands.{HasArchsOf}
 use Rattle.wb_store.specs.Queries as ask
 use Rattle.wb_store.specs.Queries.{AnswersTo, OfficeQuery, table_asked}
 use Rattle.wb_store.proofs.ArchLemmas.{archs_found, archs_formed}
 use Rattle.wb_store.proofs.FormLemmas.{formed_arch_readable}
-use Rattle.wb_store.proofs.ReadLemmas.{AsksOf, answered, crash_over, fails_to_read, one_of_rows, plain_over, row_read}
+use Rattle.wb_store.proofs.ReadLemmas.{AsksIn, answered_in, crash_in, fails_in, one_of_rows, plain_in, row_read}
 
 -- a call that hands on the fault of another one
 pub faulted : {T E : Type 0} {e : E} (r : Result T E) → IsErrAnd r (λ d. d ≡ e) → r ≡ Err e
@@ -72,49 +73,49 @@ module _ {X : Type 0} (columns : X → Row) (Fits : X → Type 0) where
 
 -- ---- the test of a table
 
-module _ {S : Type 0} {g : Ghosts S} {text : List ℕ} {query : OfficeQuery} (asks : AsksOf text [] query) {old new : Held S} where
+module _ {S : Type 0} {g : Ghosts S} {text : List ℕ} {query : OfficeQuery} (asks : AsksIn text [] query) {old new : Held S} where
   -- a test whose rows are had
   pub tests_rows : {A X : Type 0} {rows : Vec Row X} {Good : List Row → A → Type 0} {Bad : List Row → StoreFault → Type 0} (r : Result A StoreFault) → ReadsTable g (table_asked query) text [] old new (Ok rows)
       → IfOk r (Good rows.items) → IfErr r (Bad rows.items) → Tests g query Good Bad old new r
   tests_rows {rows} (Ok x) read good bad = record {
-    value = λ clean office. (rows.items, answered asks (state g old) office (read.value clean), good);
-    same = λ clean office. read.same clean (plain_over asks office);
-    err = λ clean office. tt;
-    survives = crash_over asks g old new read.survives;
+    value = λ clean there. (rows.items, answered_in asks (state g old) there (read.value clean), good);
+    same = λ clean there. read.same clean (plain_in asks there);
+    err = λ clean there. tt;
+    survives = crash_in asks g old new read.survives;
   }
   tests_rows {rows} (Err fault) read good bad = record {
-    value = λ clean office. tt;
-    same = λ clean office. tt;
-    err = λ clean office. inr (read.same clean (plain_over asks office), (rows.items, answered asks (state g old) office (read.value clean), bad));
-    survives = crash_over asks g old new read.survives;
+    value = λ clean there. tt;
+    same = λ clean there. tt;
+    err = λ clean there. inr (read.same clean (plain_in asks there), (rows.items, answered_in asks (state g old) there (read.value clean), bad));
+    survives = crash_in asks g old new read.survives;
   }
 
   -- a test whose rows are not had
   pub tests_nothing : {A X : Type 0} {fault : StoreFault} {Good : List Row → A → Type 0} {Bad : List Row → StoreFault → Type 0} {r : Result A StoreFault} → ReadsTable {X = X} g (table_asked query) text [] old new (Err fault)
       → r ≡ Err fault → Tests g query Good Bad old new r
   tests_nothing {A} {Good = Good} {Bad = Bad} read is = subst (λ (r : Result A StoreFault). Tests g query Good Bad old new r) (sym is) (record {
-    value = λ clean office. tt;
-    same = λ clean office. tt;
-    err = λ clean office. inl (fails_to_read asks (read.err clean));
-    survives = crash_over asks g old new read.survives;
+    value = λ clean there. tt;
+    same = λ clean there. tt;
+    err = λ clean there. inl (fails_in asks (read.err clean));
+    survives = crash_in asks g old new read.survives;
   })
 
 -- what a test says of an office
-pub passes_from : {S A : Type 0} {g : Ghosts S} {query : OfficeQuery} {old new : Held S} {Good : List Row → A → Type 0} {Bad : List Row → StoreFault → Type 0} {Given : Machine → Type 0} {Outcome : Machine → A → Type 0}
-    (r : Result A StoreFault) → Tests g query Good Bad old new r
-    → ((machine : Machine) → StandsFor machine (state g old).now → (rows : List Row) → AnswersTo query (state g old).now rows → (x : A) → Good rows x → Outcome machine x)
-    → ((machine : Machine) → IsConsistent machine → StandsFor machine (state g old).now → Given machine → (rows : List Row) → AnswersTo query (state g old).now rows
+pub passes_from : {S A : Type 0} {g : Ghosts S} {query : OfficeQuery} {old new : Held S} {Good : List Row → A → Type 0} {Bad : List Row → StoreFault → Type 0} {Has : Machine → Database → Type 0} {Given : Machine → Type 0}
+    {Outcome : Machine → A → Type 0} (r : Result A StoreFault) → Tests g query Good Bad old new r
+    → ((machine : Machine) → Has machine (state g old).now → (rows : List Row) → AnswersTo query (state g old).now rows → (x : A) → Good rows x → Outcome machine x)
+    → ((machine : Machine) → IsConsistent machine → Has machine (state g old).now → Given machine → (rows : List Row) → AnswersTo query (state g old).now rows
     → (fault : StoreFault) → Bad rows fault → fault ≡ Memory)
-    → PassesWith g query Given Outcome old new r
+    → PassesWith g query Has Given Outcome old new r
 passes_from (Ok x) tests finds fits = record {
-  value = λ clean machine stands. let found = tests.value clean stands.has in finds machine stands found.0 found.1 x found.2;
-  err = λ clean. tt;
+  value = λ clean there machine has. let found = tests.value clean there in finds machine has found.0 found.1 x found.2;
+  err = λ clean there. tt;
 }
 passes_from (Err fault) tests finds fits = record {
-  value = λ clean. tt;
-  err = λ clean machine sound stands given. elim (tests.err clean stands.has) [
+  value = λ clean there. tt;
+  err = λ clean there machine sound has given. elim (tests.err clean there) [
     | inl failed ↦ inr failed
-    | inr (kept, (rows, answers, bad)) ↦ inl (fits machine sound stands given rows answers fault bad)
+    | inr (kept, (rows, answers, bad)) ↦ inl (fits machine sound has given rows answers fault bad)
   ];
 }
 
@@ -123,10 +124,10 @@ passes_from (Err fault) tests finds fits = record {
 -- what the test of the architectures says of an office
 pub archs_pass : {S : Type 0} {g : Ghosts S} {old new : Held S} {X : Type 0} (r : Result (Vec (List ℕ × OsCpu) X) StoreFault)
     → Tests g ask.Archs (λ rows archs. HoldsArchs rows archs.items) (AreBadRows Arch arch_cells IsFormedArch) old new r
-    → Passes g ask.Archs (λ machine archs. archs.items ≡ finite.entries machine.archs) old new r
+    → Passes g ask.Archs HasArchsOf (λ machine archs. archs.items ≡ finite.entries machine.archs) old new r
 archs_pass {g} {old} r tests =
-    passes_from r tests (λ machine stands rows a made holds. archs_found machine (state g old).now stands rows a made.items holds.same)
-    (λ machine sound stands given rows a fault bad. only_memory arch_cells IsFormedArch Arch rows fault (archs_formed machine (state g old).now stands rows a sound) bad)
+    passes_from r tests (λ machine has rows a made holds. archs_found machine (state g old).now has rows a made.items holds.same)
+    (λ machine sound has given rows a fault bad. only_memory arch_cells IsFormedArch Arch rows fault (archs_formed machine (state g old).now has rows a sound) bad)
 
 -- a row that is that of no architecture is that of none with its forms
 pub no_formed_arch : (row : Row) → IsNoArch row → ¬ IsRowOf arch_cells IsFormedArch row

@@ -25,15 +25,17 @@ use Rattle.wb_sql.proofs.GrowthLemmas.{empty_lacks}
 use Rattle.wb_states.specs.declared.store_fault.StoreFault.{StoreFault}
 use Rattle.wb_states.specs.Machine.{IsConsistent, Machine, empty_office}
 use Rattle.wb_states.proofs.ConsistencyLemmas.{IsConsistent-empty_office}
-use Rattle.wb_store.specs.Checks.{HasGoodRows}
-use Rattle.wb_store.specs.Settled.{AreSettledAt, StandsForTrees, IsSettled, IsBackAt, LeavesEither}
-use Rattle.wb_store.proofs.OpeningSoundLemmas.{good_rows_consistent}
+use Rattle.wb_store.specs.Checks.{HasGoodRows, HasGoodRowsIn}
+use Rattle.wb_store.specs.declared.format.Format.TheVariants.{One}
+use Rattle.wb_sql.specs.Upgrading.{HasFirstOffice}
+use Rattle.wb_store.specs.Settled.{AreSettledAt, StandsForTrees, IsSettled, IsBackAt, LeavesEither, IsSettledFirst, StandsForFirstTrees}
+use Rattle.wb_store.proofs.OpeningSoundLemmas.{good_first_consistent, good_rows_consistent}
 use Rattle.wb_store.specs.Files.{AreFoundAt, AreNew, FailsToOpen, IsOver, IsRefusedOver, LeaveOffice}
 use Rattle.wb_store.specs.Opening.{IsRefusedFrom}
 use Rattle.wb_store.specs.Preparing.{AreBlank, HoldOffice, IsBlank, IsFoundAt}
 use Rattle.wb_store.proofs.NumberedLemmas.{empty_schema}
 use Rattle.sqlite.specs.Schema.{Schema}
-use Rattle.wb_store.specs.Stands.{StandsFor}
+use Rattle.wb_store.specs.Stands.{StandsFor, StandsForFirst}
 use Rattle.wb_store.proofs.SettledLemmas.{office_trees}
 
 module _ {D : Type 0} (g : Ghosts D) where
@@ -99,10 +101,30 @@ module _ {D : Type 0} (g : Ghosts D) (c : Held (FileStore D g)) (opened : IsOpen
         alone = λ other may. alone other may ∙ sym there;
       }
 
+  -- an office of the first schema
+  holds_first : {machine : Machine} → StandsForFirstTrees machine (file_state c).committed.trees → IsSettledFirst machine (file_state c)
+  holds_first {machine = machine} first =
+      let there : (file_state c).now.trees ≡ (file_state c).committed.trees = ap (λ (d : Database). d.trees) opened.0.clean in
+      let sound = (opened.1 opened.0.is_open).0 in
+      let same : (file_state c).now.schema ≡ first.schema =
+      lists_once ((file_state c).committed.trees catalog_tree) (file_state c).now.schema first.schema (subst (λ (trees : Trees). Lists (trees catalog_tree) (file_state c).now.schema) there sound.lists) first.office.sound.lists in
+      record {
+        is_open = opened.0.is_open;
+        idle = opened.0.autocommit;
+        committed = opened.0.clean;
+        holds = record {
+          sound = sound;
+          stands = subst (λ (s : Schema). StandsForFirst machine (record { schema = s; trees = (file_state c).now.trees })) (sym same)
+              (subst (λ (trees : Trees). StandsForFirst machine (record { schema = first.schema; trees = trees })) (sym there) first.office.stands);
+        };
+        alone = λ other may. alone other may ∙ sym there;
+      }
+
   -- the office that the database holds
   pub holds_office : {machine : Machine} → HoldOffice machine (file_state c).committed.trees → IsFoundAt machine (file_state c)
   holds_office (inl stands) = inl (holds_settled g c stands opened alone)
-  holds_office (inr blank) = inr (blank.0, holds_blank blank.1)
+  holds_office (inr (inl blank)) = inr (inl (blank.0, holds_blank blank.1))
+  holds_office (inr (inr first)) = inr (inr (holds_first first))
 
   -- what files hold is found
   pub found_over : (files : Files D) → ((db : Trees) → AreSettled g files db → (file_state c).committed.trees ≡ db) → {machine : Machine} → AreFoundAt g files machine → IsFoundAt machine (file_state c)
@@ -110,7 +132,7 @@ module _ {D : Type 0} (g : Ghosts D) (c : Held (FileStore D g)) (opened : IsOpen
 
   -- an empty office is found in files in which no database was made
   pub found_in_new : (files : Files D) → Finds files c → AreNew g files → IsFoundAt empty_office (file_state c)
-  found_in_new files finds new = inr (refl, holds_blank (record { schema = empty_schema; sound = empty_is_sound (file_state c).committed.trees (found_new c files finds new).1; lacks = empty_lacks }))
+  found_in_new files finds new = inr (inl (refl, holds_blank (record { schema = empty_schema; sound = empty_is_sound (file_state c).committed.trees (found_new c files finds new).1; lacks = empty_lacks })))
 
   -- one of the offices is found that a crash leaves of the files
   pub found_one : (files : Files D) → SeenMayStay g → Finds files c → (one other : Machine) → LeaveOffice g files one other → ∥ (IsFoundAt one (file_state c) ⊎ IsFoundAt other (file_state c)) ∥₁
@@ -147,9 +169,10 @@ closed_at_one c files stays copied clean before after left =
     ]
 
 -- the state of an office that an opening found is consistent, if the rows of its tables are good
-pub found_consistent : {machine : Machine} (s : State) → IsFoundAt machine s → (HasOffice s.now.schema → HasGoodRows s.now) → IsConsistent machine
-found_consistent {machine = machine} s (inl settled) good = good_rows_consistent machine s.now settled.holds.stands (good settled.holds.stands.has)
-found_consistent s (inr blank) good = subst IsConsistent (sym blank.0) IsConsistent-empty_office
+pub found_consistent : {machine : Machine} (s : State) → IsFoundAt machine s → (HasOffice s.now.schema → HasGoodRows s.now) → (HasFirstOffice s.now.schema → HasGoodRowsIn One s.now) → IsConsistent machine
+found_consistent {machine = machine} s (inl settled) good first = good_rows_consistent machine s.now settled.holds.stands (good settled.holds.stands.has)
+found_consistent s (inr (inl blank)) good first = subst IsConsistent (sym blank.0) IsConsistent-empty_office
+found_consistent {machine = machine} s (inr (inr settled)) good first = good_first_consistent machine s.now settled.holds.stands (first settled.holds.stands.has)
 
 -- an office that was adopted over files stands at the state that they hold
 pub stands_over : {X E : Type 0} {WasClean : Type 0} {Found Held : Machine → Type 0} (IsCleanAt : X → Type 0) (Stands : Machine → X → Type 0) (r : Result X E)

@@ -11,7 +11,7 @@ use Rattle.sqlite.specs.Term.{Term, eval_all}
 use Rattle.sqlite.proofs.Callers.{one_permutation}
 use Rattle.sqlite.proofs.StateLemmas.{survives_weaker}
 use Rattle.wb_sql.specs.Queries.{TableQuery, Answers, outputs}
-use Rattle.wb_sql.specs.Among.{HasOffice, rows_in}
+use Rattle.wb_sql.specs.Among.{rows_in}
 use Rattle.wb_sql.specs.Format.{AsksFormat, HasFormatColumn, format_place, formats_in}
 use Rattle.wb_sql.specs.OfficeStatements.{cell, no_limit, none_skipped}
 use Rattle.wb_sql.specs.Tables as tables
@@ -24,7 +24,7 @@ use Rattle.wb_store.specs.Checks.{AreOfFormat}
 use Rattle.wb_store.specs.Formats.{IsFaultOfFormat, IsFaultOfFormats, ShowsFormat, TellsOther}
 use Rattle.wb_store.specs.Lookups.{ReadsTable}
 use Rattle.wb_store.specs.Queries as ask
-use Rattle.wb_store.specs.Queries.{AnswersTo}
+use Rattle.wb_store.specs.Queries.{AnswersTo, HasAsked}
 
 -- ---- a query for all rows of a table
 
@@ -129,7 +129,7 @@ module _ {S : Type 0} {g : Ghosts S} {text : List ℕ} {params : Row} (asks : As
 
 -- ---- the row of an office
 
-module _ (db : Database) (office : HasOffice db.schema) (rows : List Row) (a : AnswersTo ask.Office db rows) where
+module _ (db : Database) (office : HasAsked ask.Office db.schema) (rows : List Row) (a : AnswersTo ask.Office db rows) where
   abbrev cells : List Term
   cells = cell 2 ∷ cell 3 ∷ cell 4 ∷ []
 

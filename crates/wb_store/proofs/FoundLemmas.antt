@@ -31,8 +31,11 @@ use Rattle.wb_states.specs.Lookups.{rows_in as records_in}
 use Rattle.wb_rows.specs.Cells.{record_cells, number}
 use Rattle.wb_rows.proofs.CellsLemmas.{record_cells-same}
 use Rattle.wb_store.specs.Merging.{Scratch}
-use Rattle.wb_store.specs.Stands.{StandsWith}
-use Rattle.wb_store.specs.Lookups.{AreCounts, counts_row, keyed_cells}
+use Rattle.wb_store.specs.declared.format.Format.{Format}
+use Rattle.wb_store.specs.declared.format.Format.TheVariants.{Two}
+use Rattle.wb_store.specs.Schemas.{row_in}
+use Rattle.wb_store.specs.Stands.{HasCountsOf, StandsWith}
+use Rattle.wb_store.specs.Lookups.{AreCounts, keyed_cells}
 use Rattle.wb_store.proofs.OrderLemmas.{all_from_in, entry_at, map_injective, first_of-take_one}
 use Rattle.wb_store.proofs.LookupLemmas.{key_params, key_answer, arch_answer, state_params, state_answer, held_answer, queue_params, queue_answer, head_answer, take_answer}
 
@@ -78,15 +81,21 @@ module _ (machine : Machine) where
     | inr over ↦ none_beyond sound m (grind (arith, nat_tests)) ∙ sym (none_beyond sound n (grind (arith, nat_tests)))
   ]
 
-module _ (machine : Machine) {scratch : Scratch} (db : Database) (stands : StandsWith machine scratch db) where
-  -- the counts in the office's row
-  pub counts_found : (rows : List Row) → Answers sql.office_counts [] (rows_in db tables.office) rows → AreCounts rows machine.handed machine.accepted
-  counts_found rows a =
-      let one : Output = ([], counts_row machine.handed machine.accepted) in
-      let all : outputs sql.office_counts [] (rows_in db tables.office) ≡ one ∷ [] = ap (outputs sql.office_counts []) stands.counts in
-      let ordered : a.ordered ≡ one ∷ [] = one_permutation one a.ordered (subst (λ l. IsPermutation l a.ordered) all a.same) in
-      whole_answer sql.office_counts [] (rows_in db tables.office) rows a refl refl ∙ ap (map (λ (o : Output). o.1)) ordered
+-- the counts in the office's row, in a format
+pub counts_in_format : (format : Format) (machine : Machine) (db : Database) → HasCountsOf format machine db → (rows : List Row) → Answers sql.office_counts [] (rows_in db tables.office) rows
+    → rows ≡ row_in format machine.handed machine.accepted ∷ []
+counts_in_format format machine db has rows a =
+    let one : Output = ([], row_in format machine.handed machine.accepted) in
+    let all : outputs sql.office_counts [] (rows_in db tables.office) ≡ one ∷ [] = ap (outputs sql.office_counts []) has in
+    let ordered : a.ordered ≡ one ∷ [] = one_permutation one a.ordered (subst (λ l. IsPermutation l a.ordered) all a.same) in
+    whole_answer sql.office_counts [] (rows_in db tables.office) rows a refl refl ∙ ap (map (λ (o : Output). o.1)) ordered
 
+-- in format 2
+pub counts_found : (machine : Machine) (db : Database) → HasCountsOf Two machine db → (rows : List Row) → Answers sql.office_counts [] (rows_in db tables.office) rows
+    → AreCounts rows machine.handed machine.accepted
+counts_found = counts_in_format Two
+
+module _ (machine : Machine) {scratch : Scratch} (db : Database) (stands : StandsWith machine scratch db) where
   module _ (rows : List KeyedRecord) {params : Row} where
     -- the record at a key
     pub current_found : (key : Key) → params ≡ key_params key → Answers sql.record_of_key params (rows_in db tables.source_record) (map keyed_cells rows)

@@ -1,4 +1,5 @@
 pub mod ArchLemmas
+pub mod BringLemmas
 pub mod BuilderLemmas
 pub mod ChangeLemmas
 pub mod ChangeRowLemmas
@@ -10,6 +11,7 @@ pub mod FileLemmas
 pub mod FindsLemmas
 pub mod FormLemmas
 pub mod FormatLemmas
+pub mod FirstRecordLemmas
 pub mod FoundLemmas
 pub mod HoldLemmas
 pub mod LookupLemmas
@@ -44,3 +46,5 @@ pub mod StateLemmas
 pub mod StaysLemmas
 pub mod TableLemmas
 pub mod TableRowLemmas
+pub mod UpgradedLemmas
+pub mod UpgradeLemmas

@@ -1,6 +1,7 @@
 -- Maps and sets as the lists of what they hold: what an insertion and a removal make of them, in any order.
 use Rattle.std.proofs.Common.{◌≡◌, ◌⊎◌, inl, inr, Bool, true, false, not, ◌&&◌, ◌||◌, cond, T, List, [], ◌∷◌, map, filter, Ordering, Less, Equal, Greater, Option, Some, None, is_some, refl, sym, ap, subst, ◌∙◌, IsPermutation}
 use Rattle.std.specs.List.{list_any}
+use Rattle.std.specs.Option.{option_or}
 use Rattle.std.specs.Ordering.{is_eq, is_lt, eq_by_cmp}
 use Rattle.std.specs.Cmp.{IsTotalOrder, eq_by_cmp_equiv}
 use Rattle.std.proofs.lemmas.Cmp.{alike_right}
@@ -10,6 +11,7 @@ use Rattle.std.specs.FinSet as set
 use Rattle.std.specs.FinMap.{IsAntisymmetric}
 use Rattle.std.specs.FinMap.Entries.{find, put, by_order, where_key, below_all, is_sorted, is_sorted-where_key, find-where_key}
 use Rattle.sqlite_trees.proofs.ListLemmas.{IsPermutation-same}
+use Rattle.deb_text.proofs.KeyLemmas.{eq_by_cmp-same}
 
 split : (a b : Bool) → T (a && b) → T a × T b
 split true b h = (tt, h)
@@ -128,3 +130,40 @@ module _ {K : Type 0} {R : K → K → Ordering} where
           subst (λ m. IsPermutation (k ∷ finite.keys (as_map s)) (finite.keys m)) (sym as_map-insert)
           (IsPermutation-map (λ (e : K × Unit {0}). e.0) ((k, tt) ∷ finite.entries (as_map s)) (finite.entries (finite.insert (as_map s) k tt))
           (entries-added o same (as_map s) k tt (get-as_map s k ∙ ap marked none)))
+
+-- ---- the entries of a map, inserted one after another
+
+module _ {K X : Type 0} {R : K → K → Ordering} (o : IsTotalOrder R) (same : IsAntisymmetric R) where
+  -- a map with these entries too
+  abbrev pub inserted : finite.FinMap R X → List (K × X) → finite.FinMap R X
+  inserted m [] = m
+  inserted m (e ∷ es) = inserted (finite.insert m e.0 e.1) es
+
+  none_below : (k : K) (es : List (K × X)) → T (below_all R k es) → find R k es ≡ None
+  none_below k [] h = refl
+  none_below k (e ∷ es) h =
+      let parts = split (is_lt (R k e.0)) (below_all R k es) h in
+      ap (λ r. cond (is_eq r) (Some e.1) (find R k es)) (less_is (R k e.0) parts.0) ∙ none_below k es parts.1
+
+  -- what is found after them
+  found_after : (q : K) (m : finite.FinMap R X) (es : List (K × X)) → T (is_sorted R es) → finite.get (inserted m es) q ≡ option_or (find R q es) (finite.get m q)
+  found_after q m [] h = refl
+  found_after q m (e ∷ es) h =
+      let parts = split (below_all R e.0 es) (is_sorted R es) h in
+      found_after q (finite.insert m e.0 e.1) es parts.1 ∙ ap (option_or (find R q es)) (finite.get-insert o m e.0 e.1 q) ∙ by_tie (eq_by_cmp R q e.0) refl parts.0
+    where
+      by_tie : (b : Bool) → eq_by_cmp R q e.0 ≡ b → T (below_all R e.0 es)
+          → option_or (find R q es) (cond b (Some e.1) (finite.get m q)) ≡ option_or (cond b (Some e.1) (find R q es)) (finite.get m q)
+      by_tie true tie below = ap (λ x. option_or x (Some e.1)) (subst (λ k. find R k es ≡ None) (sym (eq_by_cmp-same same q e.0 tie)) (none_below e.0 es below))
+      by_tie false apart below = refl
+
+  or_none : (x : Option X) → option_or x None ≡ x
+  or_none None = refl
+  or_none (Some x) = refl
+
+  -- the map has them and no others
+  pub all_inserted : (m : finite.FinMap R X) → inserted finite.empty (finite.entries m) ≡ m
+  all_inserted m =
+      finite.same_map o same (inserted finite.empty (finite.entries m)) m
+      (λ q. found_after q finite.empty (finite.entries m) (finite.entries_sorted m) ∙ ap (option_or (find R q (finite.entries m))) (finite.get-empty R q) ∙ or_none (find R q (finite.entries m))
+      ∙ sym (finite.get-entries m q))

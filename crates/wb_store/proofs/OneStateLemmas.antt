@@ -1,5 +1,5 @@
 -- The rows of the office's tables are those of one state.
-use Rattle.std.proofs.Common.{◌≡◌, ℕ, Bool, true, false, if◌then◌else◌, List, [], ◌∷◌, ◌++◌, map, refl, sym, ap, ap₂, subst, ◌∙◌, nat_eq}
+use Rattle.std.proofs.Common.{◌≡◌, ℕ, Bool, true, false, if◌then◌else◌, List, [], ◌∷◌, ◌++◌, refl, sym, ap, ap₂, ◌∙◌, nat_eq}
 use Rattle.std.specs.FinMap as finite
 use Rattle.std.specs.FinSet as set
 use Rattle.std.specs.List.{list_any}
@@ -8,10 +8,9 @@ use Rattle.std.proofs.lemmas.List.{append-nil}
 use Rattle.sqlite.specs.Order.{Row, column}
 use Rattle.deb_text.specs.Text.{pair_cmp}
 use Rattle.deb_text.proofs.KeyLemmas.{pair_cmp-same, pair_cmp_total}
-use Rattle.wb_states.specs.declared.arch.OsCpu.{OsCpu}
 use Rattle.wb_states.specs.declared.store_fault.Table.{Table}
 use Rattle.wb_states.specs.declared.store_fault.Table.TheVariants as on
-use Rattle.wb_states.specs.Machine.{Key, Machine}
+use Rattle.wb_states.specs.Machine.{Machine}
 use Rattle.wb_rows.specs.Cells.{arch_cells, builder_cells, record_cells}
 use Rattle.wb_rows.specs.Scratch.{binary_cells, source_cells}
 use Rattle.wb_rows.proofs.CellsLemmas.{arch_cells-same, builder_cells-same, number-same, record_cells-same}
@@ -31,6 +30,7 @@ place on.Builder = 2
 place on.SourceRecord = 3
 place on.ScratchSource = 4
 place on.ScratchBinary = 5
+place on.SourceState = 6
 
 module _ (at : ℕ) where
   abbrev is_at : Table → Bool
@@ -81,6 +81,7 @@ rows_at machine scratch on.Builder = picked-tables 2 machine scratch office_tabl
 rows_at machine scratch on.SourceRecord = picked-tables 3 machine scratch office_tables ∙ append-nil (rows_of_table machine scratch on.SourceRecord)
 rows_at machine scratch on.ScratchSource = picked-tables 4 machine scratch office_tables ∙ append-nil (rows_of_table machine scratch on.ScratchSource)
 rows_at machine scratch on.ScratchBinary = picked-tables 5 machine scratch office_tables ∙ append-nil (rows_of_table machine scratch on.ScratchBinary)
+rows_at machine scratch on.SourceState = picked-tables 6 machine scratch office_tables
 
 -- ---- the state
 

@@ -1,6 +1,6 @@
 -- Rows of which each has to fit those before it.
 use Rattle.std.proofs.Common.{◌≡◌, ◌⊎◌, inl, inr, Bool, true, false, ◌||◌, List, [], ◌∷◌, ◌++◌, append_assoc, append-nil, map, filter, cond, refl, sym, ap, subst, ◌∙◌}
-use Rattle.std.specs.List.{list_any}
+use Rattle.std.specs.List.{AllByRecursion, list_any}
 use Rattle.sqlite.specs.Order.{Row}
 use Rattle.wb_states.specs.declared.store_fault.StoreFault.{StoreFault}
 use Rattle.wb_states.specs.declared.store_fault.StoreFault.TheVariants.{Memory}
@@ -14,23 +14,37 @@ module _ {X : Type 0} (Fits : List X → X → Type 0) where
   all_after-append before (y ∷ ys) x all fit =
       (all.0, all_after-append (before ++ y ∷ []) ys x all.1 (subst (λ l. Fits l x) (sym (append_assoc before (y ∷ []) ys)) fit))
 
-module _ {X : Type 0} (columns : X → Row) (same : (x y : X) → columns x ≡ columns y → x ≡ y) (Fits : List X → X → Type 0) where
-  one_after : (done before xs : List X) (row : Row) (rest : List Row) → map columns before ++ row ∷ rest ≡ map columns xs → AllAfter Fits done xs → IsRowOf columns (Fits (done ++ before)) row
-  one_after done [] [] row rest is all = cc
-  one_after done [] (x ∷ xs) row rest is all = (x, subst (λ l. Fits l x) (sym (append-nil done)) all.0, let first : row ≡ columns x = cc in first)
-  one_after done (b ∷ before) [] row rest is all = cc
-  one_after done (b ∷ before) (x ∷ xs) row rest is all =
+module _ {X : Type 0} (columns : X → Row) (Fits : List X → X → Type 0) (same : (one other : List X) (x y : X) → Fits one x → Fits other y → columns x ≡ columns y → x ≡ y) where
+  one_after : (done before xs : List X) (row : Row) (rest : List Row) → map columns before ++ row ∷ rest ≡ map columns xs → AllAfter Fits done before → AllAfter Fits done xs
+      → IsRowOf columns (Fits (done ++ before)) row
+  one_after done [] [] row rest is good all = cc
+  one_after done [] (x ∷ xs) row rest is good all = (x, subst (λ l. Fits l x) (sym (append-nil done)) all.0, let first : row ≡ columns x = cc in first)
+  one_after done (b ∷ before) [] row rest is good all = cc
+  one_after done (b ∷ before) (x ∷ xs) row rest is good all =
       let first : columns x ≡ columns b = cc in
       let more : map columns before ++ row ∷ rest ≡ map columns xs = cc in
-      let found = one_after (done ++ x ∷ []) before xs row rest more all.1 in
-      let joined : (done ++ x ∷ []) ++ before ≡ done ++ b ∷ before = append_assoc done (x ∷ []) before ∙ ap (λ y. done ++ y ∷ before) (same x b first) in
+      let one : x ≡ b = same done done x b all.0 good.0 first in
+      let found = one_after (done ++ x ∷ []) before xs row rest more (subst (λ y. AllAfter Fits (done ++ y ∷ []) before) (sym one) good.1) all.1 in
+      let joined : (done ++ x ∷ []) ++ before ≡ done ++ b ∷ before = append_assoc done (x ∷ []) before ∙ ap (λ y. done ++ y ∷ before) one in
       subst (λ l. IsRowOf columns (Fits l) row) joined found
 
   -- where each fits those before it only memory can run out
   pub only_memory_after : (table : Table) (rows : List Row) (fault : StoreFault) → HoldsEach columns Fits rows → AreBadAfter table columns Fits rows fault → fault ≡ Memory
   only_memory_after table rows fault holds (inl memory) = memory
   only_memory_after table rows fault (xs, is, all) (inr (place, damaged, bad)) =
-      absurd (bad.bad (one_after [] bad.before xs bad.row bad.rest (sym bad.all ∙ is) all))
+      absurd (bad.bad (one_after [] bad.before xs bad.row bad.rest (sym bad.all ∙ is) bad.good all))
+
+-- lists whose columns are the same are one, where those that pass are told apart by their columns
+pub map_injective_on : {X Y : Type 0} (f : X → Y) (P : X → Type 0) → ((x y : X) → P x → P y → f x ≡ f y → x ≡ y) → (xs ys : List X) → AllByRecursion P xs → AllByRecursion P ys → map f xs ≡ map f ys → xs ≡ ys
+map_injective_on f P same [] [] all too is = refl
+map_injective_on f P same [] (y ∷ ys) all too is = absurd (cc)
+map_injective_on f P same (x ∷ xs) [] all too is = absurd (cc)
+map_injective_on f P same (x ∷ xs) (y ∷ ys) all too is =
+    let first : f x ≡ f y = cc in
+    let rest : map f xs ≡ map f ys = cc in
+    let one : x ≡ y = same x y all.0 too.0 first in
+    let more : xs ≡ ys = map_injective_on f P same xs ys all.1 too.1 rest in
+    cc
 
 -- ---- at most one of a list passes a test
 

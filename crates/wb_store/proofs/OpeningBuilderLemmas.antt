@@ -30,8 +30,7 @@ use Rattle.wb_rows.specs.Reading.{IsNoBuilder}
 use Rattle.wb_rows.proofs.CellsLemmas.{builder_cells-same}
 use Rattle.wb_store.specs.Lookups.{AreRowsOf}
 use Rattle.wb_store.specs.Checks.{AreBadRows, HoldsBuilders, IsFormedBuilder, IsRowOf, PassesWith, Tests, has_arch}
-use Rattle.wb_store.specs.Merging.{Scratch}
-use Rattle.wb_store.specs.Stands.{StandsWith, builder_pairs}
+use Rattle.wb_store.specs.Stands.{HasBuildersOf, builder_pairs}
 use Rattle.wb_store.specs.Queries as ask
 use Rattle.wb_store.proofs.ArchLemmas.{name_test}
 use Rattle.wb_store.proofs.FormLemmas.{arch_known, arch_utf8, builder_utf8}
@@ -83,7 +82,7 @@ skips_pairs : (params : Row) → SkipsRowid sql.all_builders params
 skips_pairs params [] = (refl, refl)
 skips_pairs params (x ∷ row) = (refl, refl)
 
-module _ (machine : Machine) {scratch : Scratch} (db : Database) (stands : StandsWith machine scratch db) (answer : List Row) (a : Answers sql.all_builders [] (rows_in db tables.builder) answer) where
+module _ (machine : Machine) (db : Database) (has : HasBuildersOf machine db) (answer : List Row) (a : Answers sql.all_builders [] (rows_in db tables.builder) answer) where
   abbrev pairs : List Key
   pairs = builder_pairs machine
 
@@ -95,7 +94,7 @@ module _ (machine : Machine) {scratch : Scratch} (db : Database) (stands : Stand
   -- the answer has the row of each builder
   pub builders_answer : answer ≡ map builder_cells pairs
   builders_answer =
-      rising_answer builder_cells sql.all_builders [] (skips_pairs []) (λ x. refl) refl pairs (rows_in db tables.builder) answer stands.builders a pairs ascend
+      rising_answer builder_cells sql.all_builders [] (skips_pairs []) (λ x. refl) refl pairs (rows_in db tables.builder) answer has a pairs ascend
       (IsPermutation-same _ _ (sym (filter_all (λ x. true) pairs (all_of (λ x. true ≡ true) (λ x. refl) pairs)))) refl
 
   -- the builders that are read from the answer
@@ -104,14 +103,14 @@ module _ (machine : Machine) {scratch : Scratch} (db : Database) (stands : Stand
 
   builders_formed : IsConsistent machine → (archs : List (List ℕ × OsCpu)) → archs ≡ finite.entries machine.archs → AreRowsOf builder_cells (IsFormedBuilder archs) answer
   builders_formed sound archs is = subst (λ l. AreRowsOf builder_cells (IsFormedBuilder l) answer) (sym is)
-      (whole_fits builder_cells sql.all_builders [] (skips_pairs []) (λ x. refl) refl pairs (rows_in db tables.builder) answer stands.builders a (IsFormedBuilder (finite.entries machine.archs))
+      (whole_fits builder_cells sql.all_builders [] (skips_pairs []) (λ x. refl) refl pairs (rows_in db tables.builder) answer has a (IsFormedBuilder (finite.entries machine.archs))
       (all_from_in (IsFormedBuilder (finite.entries machine.archs)) pairs (kept_builder_formed machine sound)) refl)
 
 -- what the test of the builders says of an office
 pub builders_pass : {S : Type 0} {g : Ghosts S} {old new : Held S} {X : Type 0} (archs : List (List ℕ × OsCpu)) (r : Result (Vec Key X) StoreFault)
     → Tests g ask.Builders (λ rows pairs. HoldsBuilders archs rows pairs.items) (AreBadRows Builder builder_cells (IsFormedBuilder archs)) old new r
-    → PassesWith g ask.Builders (λ machine. archs ≡ finite.entries machine.archs) (λ machine pairs. pairs.items ≡ builder_pairs machine) old new r
+    → PassesWith g ask.Builders HasBuildersOf (λ machine. archs ≡ finite.entries machine.archs) (λ machine pairs. pairs.items ≡ builder_pairs machine) old new r
 builders_pass {g} {old} archs r tests =
-    passes_from r tests (λ machine stands rows a made holds. builders_found machine (state g old).now stands rows a made.items holds.same)
-    (λ machine sound stands given rows a fault bad.
-    only_memory builder_cells (IsFormedBuilder archs) Builder rows fault (builders_formed machine (state g old).now stands rows a sound archs given) bad)
+    passes_from r tests (λ machine has rows a made holds. builders_found machine (state g old).now has rows a made.items holds.same)
+    (λ machine sound has given rows a fault bad.
+    only_memory builder_cells (IsFormedBuilder archs) Builder rows fault (builders_formed machine (state g old).now has rows a sound archs given) bad)

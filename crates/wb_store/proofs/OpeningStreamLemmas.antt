@@ -17,12 +17,12 @@ use Rattle.sqlite_trees.specs.declared.store.Store.{Ghosts}
 use Rattle.wb_sql.specs.Queries.{TableQuery, Asks, Answers}
 use Rattle.wb_sql.specs.Statements.{command_in}
 use Rattle.wb_sql.proofs.ReadingLemmas.{answers_query, query_kept}
-use Rattle.wb_sql.specs.Among.{HasOffice, query_in}
+use Rattle.wb_sql.specs.Among.{query_in}
 use Rattle.wb_states.specs.declared.store_fault.StoreFault.{StoreFault}
 use Rattle.wb_store.specs.Faults.{fault_of}
 use Rattle.wb_store.specs.Checks.{Tests}
-use Rattle.wb_store.specs.Queries.{OfficeQuery, given_to, query_asked, table_asked, table_of}
-use Rattle.wb_store.proofs.ReadLemmas.{AsksOf, answer_of, asked_over, fails_to_read, plain_over}
+use Rattle.wb_store.specs.Queries.{HasAsked, OfficeQuery, given_to, query_asked, table_asked, table_of}
+use Rattle.wb_store.proofs.ReadLemmas.{AsksIn, answer_in, asked_in, fails_in, plain_in}
 
 -- ---- a query that fails later, as one that fails at its start
 
@@ -84,36 +84,36 @@ answer_ends sql q count old mid new rows asks same shown =
 -- a query without parameters has given these rows so far, and the database is as it was
 pub record IsUnderWay {S : Type 0} (g : Ghosts S) (query : OfficeQuery) (old now : Held S) (given : List Row) : Type 0 where
   pub text : List ℕ
-  pub asks : AsksOf text [] query
-  pub runs : HasCleanDisk (state g now) → HasOffice old.schema → HasGiven g text [] now given × IsUnchanged (state g old) (state g now)
-  pub survives : Survives (state g old) (state g now) (λ _. ¬ HasOffice old.schema)
+  pub asks : AsksIn text [] query
+  pub runs : HasCleanDisk (state g now) → HasAsked query old.schema → HasGiven g text [] now given × IsUnchanged (state g old) (state g now)
+  pub survives : Survives (state g old) (state g now) (λ _. ¬ HasAsked query old.schema)
 
 -- a crash in a query that writes nothing
-crash_plain : {S : Type 0} (g : Ghosts S) {text : List ℕ} {query : OfficeQuery} (asks : AsksOf text [] query) (old new : Held S) → Survives (state g old) (state g new) (CommitsShowing text [] (state g old))
-    → Survives (state g old) (state g new) (λ _. ¬ HasOffice old.schema)
-crash_plain g {text} asks old new =
-    survives_weaker (state g old) (state g new) (CommitsShowing text [] (state g old)) (λ _. ¬ HasOffice old.schema)
-    (λ clean db made office. never_commits text [] (state g old) db (plain_over asks office) made)
+crash_plain : {S : Type 0} (g : Ghosts S) {text : List ℕ} {query : OfficeQuery} (asks : AsksIn text [] query) (old new : Held S) → Survives (state g old) (state g new) (CommitsShowing text [] (state g old))
+    → Survives (state g old) (state g new) (λ _. ¬ HasAsked query old.schema)
+crash_plain g {text} {query} asks old new =
+    survives_weaker (state g old) (state g new) (CommitsShowing text [] (state g old)) (λ _. ¬ HasAsked query old.schema)
+    (λ clean db made there. never_commits text [] (state g old) db (plain_in asks there) made)
 
 -- a crash in a query after one more call
-crash_later : {S : Type 0} (g : Ghosts S) (old now new : Held S) → Survives (state g old) (state g now) (λ _. ¬ HasOffice old.schema) → Survives (state g now) (state g new) (λ _. ⊥)
-    → Survives (state g old) (state g new) (λ _. ¬ HasOffice old.schema)
-crash_later g old now new =
-    survives_then (state g old) (state g now) (state g new) (λ _. ¬ HasOffice old.schema) (λ _. ⊥) (λ _. ¬ HasOffice old.schema) (λ clean db other. other) (λ clean db none. absurd none)
+crash_later : {S : Type 0} (g : Ghosts S) (query : OfficeQuery) (old now new : Held S) → Survives (state g old) (state g now) (λ _. ¬ HasAsked query old.schema) → Survives (state g now) (state g new) (λ _. ⊥)
+    → Survives (state g old) (state g new) (λ _. ¬ HasAsked query old.schema)
+crash_later g query old now new =
+    survives_then (state g old) (state g now) (state g new) (λ _. ¬ HasAsked query old.schema) (λ _. ⊥) (λ _. ¬ HasAsked query old.schema) (λ clean db other. other) (λ clean db none. absurd none)
 
-module _ {S : Type 0} {g : Ghosts S} {text : List ℕ} {query : OfficeQuery} (asks : AsksOf text [] query) {old new : Held S}
+module _ {S : Type 0} {g : Ghosts S} {text : List ℕ} {query : OfficeQuery} (asks : AsksIn text [] query) {old new : Held S}
     (survives : Survives (state g old) (state g new) (CommitsShowing text [] (state g old))) where
   -- the query begins
   pub begins : (HasCleanDisk (state g new) → HasBegun g text [] old new) → IsUnderWay g query old new []
-  begins begun = record { text = text; asks = asks; runs = λ clean office. begun_plain g text [] old new (plain_over asks office) (begun clean); survives = crash_plain g asks old new survives }
+  begins begun = record { text = text; asks = asks; runs = λ clean there. begun_plain g text [] old new (plain_in asks there) (begun clean); survives = crash_plain g asks old new survives }
 
   -- the query does not begin
   pub tests_refused : {A : Type 0} {Good : List Row → A → Type 0} {Bad : List Row → StoreFault → Type 0} {r : Result A StoreFault} (e : Error)
       → (HasCleanDisk (state g new) → FailsToQuery text [] (state g old) (state g new) e) → r ≡ Err (fault_of e (table_asked query)) → Tests g query Good Bad old new r
   tests_refused {A} {Good} {Bad} e fails is = subst (λ (r : Result A StoreFault). Tests g query Good Bad old new r) (sym is) (record {
-    value = λ clean office. tt;
-    same = λ clean office. tt;
-    err = λ clean office. let failed = fails clean in inl (fails_to_read asks (e, failed, query_kept text [] (state g old) (state g new) e failed, refl));
+    value = λ clean there. tt;
+    same = λ clean there. tt;
+    err = λ clean there. let failed = fails clean in inl (fails_in asks (e, failed, query_kept text [] (state g old) (state g new) e failed, refl));
     survives = crash_plain g asks old new survives;
   })
 
@@ -130,9 +130,9 @@ module _ {S : Type 0} {g : Ghosts S} {query : OfficeQuery} {old now : Held S} {g
     moves row advances same = record {
       text = under.text;
       asks = under.asks;
-      runs = λ clean office.
-          let was = under.runs (omega (arith, clean, later.clean)) office in (advances clean under.text [] given was.0, unchanged_then (state g old) (state g now) (state g new) was.1 (same clean));
-      survives = crash_later g old now new under.survives later;
+      runs = λ clean there.
+          let was = under.runs (omega (arith, clean, later.clean)) there in (advances clean under.text [] given was.0, unchanged_then (state g old) (state g now) (state g new) was.1 (same clean));
+      survives = crash_later g query old now new under.survives later;
     }
 
     module _ {A : Type 0} {Good : List Row → A → Type 0} {Bad : List Row → StoreFault → Type 0} {r : Result A StoreFault} where
@@ -140,36 +140,36 @@ module _ {S : Type 0} {g : Ghosts S} {query : OfficeQuery} {old now : Held S} {g
       pub tests_ended : (x : A) → (HasCleanDisk (state g new) → Advances g now new None) → (HasCleanDisk (state g new) → IsUnchanged (state g now) (state g new)) → Good given x → r ≡ Ok x
           → Tests g query Good Bad old new r
       tests_ended x advances same good is = subst (λ (r : Result A StoreFault). Tests g query Good Bad old new r) (sym is) (record {
-        value = λ clean office.
-            let was = under.runs (omega (arith, clean, later.clean)) office in
-            (given, answer_of under.asks (state g old).now given (answer_ends under.text (query_in old.schema (table_of (table_asked query)) (query_asked query)) (length (given_to query)) (state g old) (state g now) (state g new) given (asked_over under.asks office) was.1 (advances clean under.text [] given was.0)), good);
-        same = λ clean office. unchanged_then (state g old) (state g now) (state g new) (under.runs (omega (arith, clean, later.clean)) office).1 (same clean);
-        err = λ clean office. tt;
-        survives = crash_later g old now new under.survives later;
+        value = λ clean there.
+            let was = under.runs (omega (arith, clean, later.clean)) there in
+            (given, answer_in under.asks (state g old).now given (answer_ends under.text (query_in old.schema (table_of (table_asked query)) (query_asked query)) (length (given_to query)) (state g old) (state g now) (state g new) given (asked_in under.asks there) was.1 (advances clean under.text [] given was.0)), good);
+        same = λ clean there. unchanged_then (state g old) (state g now) (state g new) (under.runs (omega (arith, clean, later.clean)) there).1 (same clean);
+        err = λ clean there. tt;
+        survives = crash_later g query old now new under.survives later;
       })
 
       -- the next row cannot be read
       pub tests_failed : (e : Error) → (HasCleanDisk (state g new) → FailsToAdvance g now new e) → r ≡ Err (fault_of e (table_asked query)) → Tests g query Good Bad old new r
       tests_failed e fails is = subst (λ (r : Result A StoreFault). Tests g query Good Bad old new r) (sym is) (record {
-        value = λ clean office. tt;
-        same = λ clean office. tt;
-        err = λ clean office.
-            let was = under.runs (omega (arith, clean, later.clean)) office in
-            let plain = plain_over under.asks office in
+        value = λ clean there. tt;
+        same = λ clean there. tt;
+        err = λ clean there.
+            let was = under.runs (omega (arith, clean, later.clean)) there in
+            let plain = plain_in under.asks there in
             let failed = fails_from_start under.text [] (state g old) (state g now) (state g new) was.1 under.survives.counts under.survives.limit plain e (fails clean under.text [] given was.0) in
-            inl (fails_to_read under.asks (e, failed, query_kept under.text [] (state g old) (state g new) e failed, refl));
-        survives = crash_later g old now new under.survives later;
+            inl (fails_in under.asks (e, failed, query_kept under.text [] (state g old) (state g new) e failed, refl));
+        survives = crash_later g query old now new under.survives later;
       })
 
   -- the rows so far show that the test fails, whatever comes after them
   pub tests_bad : {A : Type 0} {Good : List Row → A → Type 0} {Bad : List Row → StoreFault → Type 0} {r : Result A StoreFault} (fault : StoreFault)
       → ((rest : List Row) → Bad (given ++ rest) fault) → r ≡ Err fault → Tests g query Good Bad old now r
   tests_bad {A} {Good} {Bad} fault bad is = subst (λ (r : Result A StoreFault). Tests g query Good Bad old now r) (sym is) (record {
-    value = λ clean office. tt;
-    same = λ clean office. tt;
-    err = λ clean office.
-        let was = under.runs clean office in
-        let whole = answer_begins g under.text (query_in old.schema (table_of (table_asked query)) (query_asked query)) (length (given_to query)) (state g old) now given (asked_over under.asks office) was.0 was.1 in
-        inr (was.1, (given ++ whole.0, answer_of under.asks (state g old).now (given ++ whole.0) whole.1, bad whole.0));
+    value = λ clean there. tt;
+    same = λ clean there. tt;
+    err = λ clean there.
+        let was = under.runs clean there in
+        let whole = answer_begins g under.text (query_in old.schema (table_of (table_asked query)) (query_asked query)) (length (given_to query)) (state g old) now given (asked_in under.asks there) was.0 was.1 in
+        inr (was.1, (given ++ whole.0, answer_in under.asks (state g old).now (given ++ whole.0) whole.1, bad whole.0));
     survives = under.survives;
   })

@@ -10,11 +10,11 @@ use Rattle.sqlite.specs.Effect.{Database}
 use Rattle.sqlite.specs.Held.{Held, state}
 use Rattle.sqlite.specs.State.{State, HasCleanDisk, IsLive, IsRolledBack, Survives}
 use Rattle.wb_sql.specs.Transactions.{Commits, IsTakenBack, LeavesAlone, FailsToCommit}
-use Rattle.wb_sql.specs.Among.{HasOffice, LacksOffice, IsNumbered, rows_in}
+use Rattle.wb_sql.specs.Among.{HasOffice, HasStates, LacksOffice, IsNumbered, rows_in}
 use Rattle.wb_sql.specs.Making.{HasEmptyTables, MakesOffice, Makes, FailsAt}
 use Rattle.wb_sql.specs.Tables.{arch, builder, source_record}
-use Rattle.wb_sql.proofs.GrowthLemmas.{office_made, empty_lacks}
-use Rattle.wb_states.specs.Machine.{Key, empty_office}
+use Rattle.wb_sql.proofs.GrowthLemmas.{office_made, made_lacks_states, empty_lacks}
+use Rattle.wb_states.specs.Machine.{Key, Machine, empty_office}
 use Rattle.std.specs.List.{list_any}
 use Rattle.std.specs.Ordering.{eq_by_cmp}
 use Rattle.std.specs.Cmp.{IsTotalOrder, eq_by_cmp_equiv}
@@ -53,6 +53,11 @@ no_builders =
     ap (λ (pairs : List Key). map builder_cells (finite.keys (finite.from_entries {R = pair_cmp} (map (λ pair. (pair, tt {0})) pairs)))) none
     ∙ ap (λ (es : List (Key × Unit {0})). map builder_cells (map (λ e. e.0) es)) (no_entries pair_cmp _ refl)
 
+-- a table without a row holds the records of a state that has none
+pub no_records_held : (machine : Machine) (rows : List Row) → machine.records ≡ finite.empty → rows ≡ [] → HoldsRows (record_rows machine) rows
+no_records_held machine rows none nothing =
+    no_rows (record_rows machine) rows (ap (λ records. map record_cells (finite.entries records)) none ∙ ap (map record_cells) (no_entries pair_cmp _ refl)) nothing
+
 -- the tables that are made hold the rows of an empty office
 stands_empty : (base : Schema) → LacksOffice base → IsNumbered base → (old new : State) → MakesOffice base old new → StandsFor empty_office new.now
 unfolding empty_office
@@ -65,6 +70,7 @@ stands_empty base lacks numbered old new made = record {
   sources = made.made.empty.1.1.1.0;
   binaries = made.made.empty.1.1.1.1.0;
   order = record { sources = tt; binaries = tt };
+  emptied = λ states. absurd (made_lacks_states base lacks numbered (subst HasStates made.made.schema_is states));
 }
 
 -- ---- what a transaction makes of a database that lacks the office
@@ -84,7 +90,7 @@ room_of s blank = record { is_open = blank.is_open; lacks = blank.lacks; sound =
 -- what a crash leaves of a database that lacked the office's tables is found to be an empty office
 found_of : (old new : State) → IsBlank old → LeavesOrMakes old new → LeavesFound empty_office new
 found_of old new blank leaves db may = elim (leaves db may) [
-  | inl was ↦ inr (refl, subst AreBlank (sym (blank.alone db was)) (record { schema = old.now.schema; sound = blank.sound; lacks = blank.lacks }))
+  | inl was ↦ inr (inl (refl, subst AreBlank (sym (blank.alone db was)) (record { schema = old.now.schema; sound = blank.sound; lacks = blank.lacks })))
   | inr made ↦ inl made.1
 ]
 
@@ -118,7 +124,7 @@ module _ {S : Type 0} (g : Ghosts S) (old begun written : Held S) {A : Type 0} (
   limit_then = anywhere.survives.limit ∙ ap (λ h. (state g h).step_limit) begins
 
 -- a transaction that is taken back is over
-over_of : (old new : State) → IsTakenBack old new → new.in_transaction ≡ false
+pub over_of : (old new : State) → IsTakenBack old new → new.in_transaction ≡ false
 over_of old new (inl undone) = undone.autocommit
 over_of old new (inr over) = over.1.0.mode ∙ over.0
 

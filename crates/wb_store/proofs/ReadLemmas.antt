@@ -15,7 +15,7 @@ use Rattle.wb_sql.specs.Among.{HasOffice, HasTable, query_at, query_in, rows_in,
 use Rattle.wb_states.specs.declared.store_fault.StoreFault.{StoreFault}
 use Rattle.wb_states.specs.declared.store_fault.StoreFault.TheVariants.{Memory}
 use Rattle.wb_states.specs.declared.store_fault.Table.{Table}
-use Rattle.wb_states.specs.declared.store_fault.Table.TheVariants.{Office, Arch, Builder, SourceRecord, ScratchSource, ScratchBinary}
+use Rattle.wb_states.specs.declared.store_fault.Table.TheVariants.{Office, Arch, Builder, SourceRecord, ScratchSource, ScratchBinary, SourceState}
 use Rattle.wb_states.specs.Machine.{Machine, IsConsistent}
 use Rattle.wb_states.specs.declared.keyed.KeyedRecord.{KeyedRecord}
 use Rattle.wb_store.specs.Faults.{IsUnfit, unfit, answer_on}
@@ -25,7 +25,7 @@ use Rattle.wb_store.specs.Calls.{FailsToLookUp, FailsToRead, LooksUp}
 use Rattle.wb_store.specs.Lookups.{AreRecords, AreRowsOf, FailsToReadRecords, IsQueryFault, MayAnswer, ReadsRecords, ReadsTable, keyed_cells}
 use Rattle.sqlite.specs.declared.error.Error.{Error}
 use Rattle.wb_sql.specs.Calls.{RunsQuery}
-use Rattle.wb_store.specs.Queries.{AnswersTo, IsTextOfQuery, OfficeQuery, given_to, query_asked, table_asked, table_of}
+use Rattle.wb_store.specs.Queries.{AnswersTo, HasAsked, IsCurrent, IsTextOfQuery, OfficeQuery, given_to, query_asked, table_asked, table_of}
 
 -- a call that hands on the error of another one
 pub handed_on : {T E : Type 0} {e : E} (r : Result T E) → IsErrAnd r (λ d. d ≡ e) → r ≡ Err e
@@ -58,44 +58,86 @@ row_read columns made after new row rest left all whole next pushed is =
 
 -- ---- the run of a query
 
--- a schema with the office's tables has each of them
-has_table : (table : Table) {schema : Schema} → HasOffice schema → HasTable schema (table_in schema (table_of table))
-has_table Office has = has.office_is
-has_table Arch has = has.arch_is
-has_table Builder has = has.builder_is
-has_table SourceRecord has = has.record_is
-has_table ScratchSource has = has.source_is
-has_table ScratchBinary has = has.binary_is
-
--- the text and the parameters are those of a query on one of the office's tables
-pub record AsksOf (sql : List ℕ) (params : Row) (query : OfficeQuery) : Type 0 where
-  pub text : IsTextOfQuery query sql
-  pub given : params ≡ given_to query
-
--- what a text asks, with these parameters
-pub asks_of : {sql : List ℕ} {params : Row} (query : OfficeQuery) → IsTextOfQuery query sql → params ≡ given_to query → AsksOf sql params query
-asks_of query text given = record { text = text; given = given }
-
 -- what a query answers does not depend on the tree in which its table is
 answers_of : {q : TableQuery} {tree : ℕ} {params : Row} {rows answer : List Row} → Answers (query_at tree q) params rows answer → Answers q params rows answer
 answers_of a = record { ordered = a.ordered; same = a.same; sorted = a.sorted; shown = a.shown }
 
+-- the text and the parameters are those of a query
+pub record AsksIn (sql : List ℕ) (params : Row) (query : OfficeQuery) : Type 0 where
+  pub text : IsTextOfQuery query sql
+  pub given : params ≡ given_to query
+
+-- what a text asks, with these parameters
+pub asks_in : {sql : List ℕ} {params : Row} (query : OfficeQuery) → IsTextOfQuery query sql → params ≡ given_to query → AsksIn sql params query
+asks_in query text given = record { text = text; given = given }
+
+module _ {sql : List ℕ} {params : Row} {query : OfficeQuery} (asks : AsksIn sql params query) where
+  -- what a text asks over a schema with the table of the query
+  pub asked_in : {schema : Schema} → HasAsked query schema → Asks schema sql (query_in schema (table_of (table_asked query)) (query_asked query)) (length (given_to query))
+  asked_in {schema} has = asks.text schema (tree_named schema (table_of (table_asked query)).name) has
+
+  pub plain_in : {schema : Schema} → HasAsked query schema → IsPlain (understood schema sql)
+  plain_in has = (asked_in has).means.plain
+
+  -- an answer to it over the tree in which its table is
+  pub answer_in : (db : Database) (rows : List Row) → Answers (query_in db.schema (table_of (table_asked query)) (query_asked query)) params (rows_in db (table_of (table_asked query))) rows → AnswersTo query db rows
+  answer_in db rows a = subst (λ given. Answers (query_asked query) given (rows_in db (table_of (table_asked query))) rows) asks.given (answers_of a)
+
+  -- what it may answer, it answers of the rows of the table
+  pub answered_in : {rows : List Row} (at : State) → HasAsked query at.now.schema → MayAnswer sql params at rows → AnswersTo query at.now rows
+  answered_in {rows} at has answers =
+      answer_in at.now rows (answers (query_in at.now.schema (table_of (table_asked query)) (query_asked query)) (length (given_to query)) (asked_in has))
+
+  pub crash_in : {S : Type 0} (g : Ghosts S) (old new : Held S) → Survives (state g old) (state g new) (λ _. ¬ IsPlain (understood old.schema sql))
+      → Survives (state g old) (state g new) (λ _. ¬ HasAsked query old.schema)
+  crash_in g old new =
+      survives_weaker (state g old) (state g new) (λ _. ¬ IsPlain (understood old.schema sql)) (λ _. ¬ HasAsked query old.schema) (λ clean db unplain has. unplain (plain_in has))
+
+  -- a query that failed, by its text and its parameters
+  pub fails_in : {old new : State} {fault : StoreFault} → IsQueryFault (table_asked query) sql params old new fault → FailsToRead query old new fault
+  fails_in {old} {new} failed = record {
+    error = failed.0;
+    sql = sql;
+    text = asks.text;
+    failed = subst (λ given. FailsToQuery sql given old new failed.0) asks.given failed.1;
+    left = failed.2;
+    fault_is = failed.3;
+  }
+
+-- a schema with the office's tables has each of the second schema
+pub has_table : (table : Table) → IsCurrent table → {schema : Schema} → HasOffice schema → HasTable schema (table_in schema (table_of table))
+has_table Office current has = has.office_is
+has_table Arch current has = has.arch_is
+has_table Builder current has = has.builder_is
+has_table SourceRecord current has = has.record_is
+has_table ScratchSource current has = has.source_is
+has_table ScratchBinary current has = has.binary_is
+has_table SourceState current has = absurd current
+
+-- the text and the parameters are those of a query on one of these tables
+pub record AsksOf (sql : List ℕ) (params : Row) (query : OfficeQuery) : Type 0 where
+  pub asks : AsksIn sql params query
+  pub current : IsCurrent (table_asked query)
+
+-- what a text asks of such a table, with these parameters
+pub asks_of : {sql : List ℕ} {params : Row} (query : OfficeQuery) → IsCurrent (table_asked query) → IsTextOfQuery query sql → params ≡ given_to query → AsksOf sql params query
+asks_of query current text given = record { asks = asks_in query text given; current = current }
+
 module _ {sql : List ℕ} {params : Row} {query : OfficeQuery} (asks : AsksOf sql params query) where
   -- what a text asks over a schema with the office's tables
   pub asked_over : {schema : Schema} → HasOffice schema → Asks schema sql (query_in schema (table_of (table_asked query)) (query_asked query)) (length (given_to query))
-  asked_over {schema} has = asks.text schema (tree_named schema (table_of (table_asked query)).name) (has_table (table_asked query) has)
+  asked_over has = asked_in asks.asks (has_table (table_asked query) asks.current has)
 
   pub plain_over : {schema : Schema} → HasOffice schema → IsPlain (understood schema sql)
   plain_over has = (asked_over has).means.plain
 
   -- an answer to it over the tree in which its table is
   pub answer_of : (db : Database) (rows : List Row) → Answers (query_in db.schema (table_of (table_asked query)) (query_asked query)) params (rows_in db (table_of (table_asked query))) rows → AnswersTo query db rows
-  answer_of db rows a = subst (λ given. Answers (query_asked query) given (rows_in db (table_of (table_asked query))) rows) asks.given (answers_of a)
+  answer_of = answer_in asks.asks
 
   -- what it may answer, it answers of the rows of the table
   pub answered : {rows : List Row} (at : State) → HasOffice at.now.schema → MayAnswer sql params at rows → AnswersTo query at.now rows
-  answered {rows} at has answers =
-      answer_of at.now rows (answers (query_in at.now.schema (table_of (table_asked query)) (query_asked query)) (length (given_to query)) (asked_over has))
+  answered at has = answered_in asks.asks at (has_table (table_asked query) asks.current has)
 
   pub crash_over : {S : Type 0} (g : Ghosts S) (old new : Held S) → Survives (state g old) (state g new) (λ _. ¬ IsPlain (understood old.schema sql))
       → Survives (state g old) (state g new) (λ _. ¬ HasOffice old.schema)
@@ -104,14 +146,7 @@ module _ {sql : List ℕ} {params : Row} {query : OfficeQuery} (asks : AsksOf sq
 
 -- a query that failed, by its text and its parameters
 pub fails_to_read : {sql : List ℕ} {params : Row} {query : OfficeQuery} {old new : State} {fault : StoreFault} → AsksOf sql params query → IsQueryFault (table_asked query) sql params old new fault → FailsToRead query old new fault
-fails_to_read {sql} {old = old} {new = new} asks failed = record {
-  error = failed.0;
-  sql = sql;
-  text = asks.text;
-  failed = subst (λ given. FailsToQuery sql given old new failed.0) asks.given failed.1;
-  left = failed.2;
-  fault_is = failed.3;
-}
+fails_to_read asks = fails_in asks.asks
 
 module _ {S : Type 0} {g : Ghosts S} {sql : List ℕ} {params : Row} {old new : Held S} where
   -- the rows of a query on a table

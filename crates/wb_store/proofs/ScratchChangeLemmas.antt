@@ -37,7 +37,7 @@ use Rattle.wb_store.specs.Merging.{Scratch, IsNewBinary, IsNewSource, stored_bin
 use Rattle.wb_store.specs.ScratchWrites as write
 use Rattle.wb_store.specs.ScratchWrites.{Allows, ChangesScratch, FailsToWrite, IsTextOfWrite, ScratchWrite, after_write, table_written, written_by}
 use Rattle.wb_store.specs.Stands.{StandsWith}
-use Rattle.wb_store.proofs.ChangeLemmas.{still_has, still_counts, still_archs, still_builders, still_records, still_sources, still_binaries}
+use Rattle.wb_store.proofs.ChangeLemmas.{still_has, still_counts, still_archs, still_builders, still_records, still_sources, still_binaries, still_emptied}
 use Rattle.wb_store.proofs.ChangeRowLemmas.{typed_at}
 use Rattle.wb_store.proofs.OthersLemmas.{others_kept, source_named, binary_named}
 use Rattle.wb_store.proofs.PlaceLemmas as place
@@ -123,6 +123,7 @@ module _ (sql : List ℕ) (machine : Machine) (scratch : Scratch) (old new : Sta
       sources = own_rows old new scratch_source rows made ∙ are;
       binaries = still_binaries stands (table_in schema scratch_source) rows stands.has.source_is made (λ e. omega (arith, e));
       order = record { sources = up; binaries = stands.order.binaries };
+      emptied = still_emptied stands (table_in schema scratch_source) rows stands.has.source_is made (λ e. omega (arith, e));
     };
     schema_is = made.schema;
     shown = made.shown;
@@ -144,6 +145,7 @@ module _ (sql : List ℕ) (machine : Machine) (scratch : Scratch) (old new : Sta
       sources = still_sources stands (table_in schema scratch_binary) rows stands.has.binary_is made (λ e. omega (arith, e));
       binaries = own_rows old new scratch_binary rows made ∙ are;
       order = record { sources = stands.order.sources; binaries = up };
+      emptied = still_emptied stands (table_in schema scratch_binary) rows stands.has.binary_is made (λ e. omega (arith, e));
     };
     schema_is = made.schema;
     shown = made.shown;

@@ -1,5 +1,6 @@
 -- The rows of tables that are shown one table after another.
-use Rattle.std.proofs.Common.{◌≡◌, ℕ, inl, inr, List, [], ◌∷◌, ◌++◌, append_assoc, map, Result, Ok, Err, IfErr, OnOk, Vec, refl, sym, ap, subst, ◌∙◌, arith}
+use Rattle.std.proofs.Common.{◌≡◌, ℕ, zero, suc, drop, inl, inr, List, [], ◌∷◌, ◌++◌, append_assoc, map, Result, Ok, Err, IfErr, OnOk, Vec, refl, sym, ap, subst, ◌∙◌, arith}
+use Rattle.std.specs.List.{AllByRecursion}
 use Rattle.std.proofs.lemmas.List.{append-nil, map-append}
 use Rattle.sqlite_trees.specs.declared.store.Store.{Ghosts}
 use Rattle.sqlite.specs.Held.{Held, state}
@@ -17,7 +18,7 @@ use Rattle.wb_store.specs.Faults.{IsUnfit}
 use Rattle.wb_store.specs.Finds.{StaysAs}
 use Rattle.wb_store.specs.Lookups.{AreRowsOf, IsQueryFault, ReadsTable}
 use Rattle.wb_store.specs.Merging.{Scratch}
-use Rattle.wb_store.specs.Queries.{IsTextOfQuery, given_to, table_asked}
+use Rattle.wb_store.specs.Queries.{IsCurrent, IsTextOfQuery, given_to, table_asked}
 use Rattle.wb_store.specs.Stands.{StandsWith}
 use Rattle.wb_store.specs.TableRows.{ShowsAll, ShowsRows, ShowsTable, office_tables, query_of_table, rows_of_table, rows_of_tables, with_table}
 use Rattle.wb_store.proofs.FindsLemmas.{stays-now, stays-schema, stays_then}
@@ -32,6 +33,7 @@ given_none on.Builder = refl
 given_none on.SourceRecord = refl
 given_none on.ScratchSource = refl
 given_none on.ScratchBinary = refl
+given_none on.SourceState = refl
 
 asked_of : (table : Table) → table ≡ table_asked (query_of_table table)
 asked_of on.Office = refl
@@ -40,6 +42,7 @@ asked_of on.Builder = refl
 asked_of on.SourceRecord = refl
 asked_of on.ScratchSource = refl
 asked_of on.ScratchBinary = refl
+asked_of on.SourceState = refl
 
 -- ---- rows, one after another
 
@@ -56,34 +59,34 @@ row_added table start made after shown row rest left all before whole so_far nex
 
 -- ---- one table
 
-asks : {text : List ℕ} (table : Table) → IsTextOfQuery (query_of_table table) text → AsksOf text [] (query_of_table table)
-asks table is_text = asks_of (query_of_table table) is_text (given_none table)
+asks : {text : List ℕ} (table : Table) → IsCurrent table → IsTextOfQuery (query_of_table table) text → AsksOf text [] (query_of_table table)
+asks table current is_text = asks_of (query_of_table table) (subst IsCurrent (asked_of table) current) is_text (given_none table)
 
-module _ {S : Type 0} {g : Ghosts S} {old new : Held S} (table : Table) {text : List ℕ} (is_text : IsTextOfQuery (query_of_table table) text) {before after : List (Table × Row)} where
+module _ {S : Type 0} {g : Ghosts S} {old new : Held S} (table : Table) (current : IsCurrent table) {text : List ℕ} (is_text : IsTextOfQuery (query_of_table table) text) {before after : List (Table × Row)} where
   -- the rows that the query answered
   pub shows_table : {A X : Type 0} {rows : Vec Row X} (r : Result A StoreFault) → ReadsTable g table text [] old new (Ok rows) → OnOk r (after ≡ before ++ with_table table rows.items)
       → IfErr r (IsUnfit table (AreRowsOf values_of AreReadableCells rows.items)) → ShowsTable g table before after old new r
   shows_table (Ok x) read is fault = record {
     value = λ clean machine scratch stands.
-        is ∙ ap (λ l. before ++ with_table table l) (table_answer machine (state g old).now stands _ table (answered (asks table is_text) (state g old) stands.has (read.value clean)));
-    same = λ clean office. read.same clean (plain_over (asks table is_text) office);
+        is ∙ ap (λ l. before ++ with_table table l) (table_answer machine (state g old).now stands _ table current (answered (asks table current is_text) (state g old) stands.has (read.value clean)));
+    same = λ clean office. read.same clean (plain_over (asks table current is_text) office);
     err = λ clean office. tt;
-    survives = crash_over (asks table is_text) g old new read.survives;
+    survives = crash_over (asks table current is_text) g old new read.survives;
   }
   shows_table (Err e) read is fault = record {
     value = λ clean. tt;
     same = λ clean office. tt;
     err = λ clean office. elim fault [
-      | inl memory ↦ inr (inl (memory, read.same clean (plain_over (asks table is_text) office)))
+      | inl memory ↦ inr (inl (memory, read.same clean (plain_over (asks table current is_text) office)))
       | inr unfit ↦ inr (inr (
         unfit.0,
-        read.same clean (plain_over (asks table is_text) office),
+        read.same clean (plain_over (asks table current is_text) office),
         λ machine scratch sound readable stands.
             unfit.1 (subst (AreRowsOf values_of AreReadableCells)
-            (sym (table_answer machine (state g old).now stands _ table (answered (asks table is_text) (state g old) stands.has (read.value clean)))) (table_shown machine scratch sound readable table)),
+            (sym (table_answer machine (state g old).now stands _ table current (answered (asks table current is_text) (state g old) stands.has (read.value clean)))) (table_shown machine scratch sound readable table)),
       ))
     ];
-    survives = crash_over (asks table is_text) g old new read.survives;
+    survives = crash_over (asks table current is_text) g old new read.survives;
   }
 
   -- none, of a query that failed
@@ -91,11 +94,18 @@ module _ {S : Type 0} {g : Ghosts S} {old new : Held S} (table : Table) {text : 
   shows_none {A} {fault = fault} read is = subst (λ (r : Result A StoreFault). ShowsTable g table before after old new r) (sym is) (record {
     value = λ clean. tt;
     same = λ clean office. tt;
-    err = λ clean office. inl (fails_to_read (asks table is_text) (subst (λ t. IsQueryFault t text [] (state g old) (state g new) fault) (asked_of table) (read.err clean)));
-    survives = crash_over (asks table is_text) g old new read.survives;
+    err = λ clean office. inl (fails_to_read (asks table current is_text) (subst (λ t. IsQueryFault t text [] (state g old) (state g new) fault) (asked_of table) (read.err clean)));
+    survives = crash_over (asks table current is_text) g old new read.survives;
   })
 
 -- ---- tables, one after another
+
+-- what holds of each table holds of the next that is left
+pub next_current : (at : ℕ) (tables : List Table) {table : Table} {rest : List Table} → AllByRecursion IsCurrent tables → drop at tables ≡ table ∷ rest → IsCurrent table
+next_current zero [] all is = absurd (cc)
+next_current zero (first ∷ tables) {table} all is = let same : first ≡ table = cc in subst IsCurrent same all.0
+next_current (suc at) [] all is = absurd (cc)
+next_current (suc at) (first ∷ tables) all is = next_current at tables all.1 is
 
 -- what is known while these tables are left to be shown
 pub record HasShown {S : Type 0} (g : Ghosts S) (tables left : List Table) (before shown : List (Table × Row)) (old now : Held S) : Type 0 where

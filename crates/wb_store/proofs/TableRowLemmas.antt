@@ -30,7 +30,7 @@ use Rattle.wb_rows.specs.Shown.{AreReadableCells, IsReadableCell, value_of, valu
 use Rattle.wb_rows.proofs.TextLemmas.{version-utf8}
 use Rattle.wb_store.specs.Lookups.{AreRowsOf, IsReadableArch, IsReadablePair}
 use Rattle.wb_store.specs.Merging.{Scratch, stored_binary, stored_source}
-use Rattle.wb_store.specs.Queries.{AnswersTo}
+use Rattle.wb_store.specs.Queries.{AnswersTo, IsCurrent}
 use Rattle.wb_store.specs.ScratchLookups.{AreReadable}
 use Rattle.wb_store.specs.Stands.{StandsWith, builder_pairs}
 use Rattle.wb_store.specs.TableRows.{office_cells, query_of_table, rows_of_table}
@@ -69,13 +69,14 @@ module _ (machine : Machine) {scratch : Scratch} (db : Database) (stands : Stand
       ∙ ap (map binary_cells) (keeps_all scratch.binaries)
 
   -- the query for all rows of a table answers them
-  pub table_answer : (table : Table) → AnswersTo (query_of_table table) db answer → answer ≡ rows_of_table machine scratch table
-  table_answer on.Office a = office_answer a
-  table_answer on.Arch a = archs_answer machine db stands answer a
-  table_answer on.Builder a = builders_answer machine db stands answer a
-  table_answer on.SourceRecord a = records_answer machine db stands answer a
-  table_answer on.ScratchSource a = sources_answer a
-  table_answer on.ScratchBinary a = binaries_answer a
+  pub table_answer : (table : Table) → IsCurrent table → AnswersTo (query_of_table table) db answer → answer ≡ rows_of_table machine scratch table
+  table_answer on.Office current a = office_answer a
+  table_answer on.Arch current a = archs_answer machine db stands.archs answer a
+  table_answer on.Builder current a = builders_answer machine db stands.builders answer a
+  table_answer on.SourceRecord current a = records_answer machine db stands.records answer a
+  table_answer on.ScratchSource current a = sources_answer a
+  table_answer on.ScratchBinary current a = binaries_answer a
+  table_answer on.SourceState current a = absurd current
 
 -- ---- rows as cells
 
@@ -188,3 +189,4 @@ module _ (machine : Machine) (scratch : Scratch) (sound : IsConsistent machine) 
       all_shown record_cells IsReadable record_shown record_cells-shown record_readable (finite.entries machine.records) (all_from_in IsReadable (finite.entries machine.records) (kept_readable machine sound))
   table_shown on.ScratchSource = all_shown source_cells IsReadableSource source_shown source_cells-shown source_readable scratch.sources readable.sources
   table_shown on.ScratchBinary = all_shown binary_cells IsReadableBinary binary_shown binary_cells-shown binary_readable scratch.binaries readable.binaries
+  table_shown on.SourceState = ([], tt, refl)

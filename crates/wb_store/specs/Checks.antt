@@ -1,5 +1,5 @@
 -- What an opening tests of the office's tables, row by row.
-use Rattle.std.specs.Prelude.{◌≡◌, ◌⊎◌, ◌++◌, ℕ, suc, ◌<◌, ◌≤◌, ⊤, Bool, false, ◌&&◌, ◌||◌, nat_eq, bytes_eq, IsTrue, List, [], ◌∷◌, length, map, find, Option, IfSome, Result, IfOk, IfErr, OnOk}
+use Rattle.std.specs.Prelude.{◌≡◌, ◌≢◌, ◌⊎◌, ◌++◌, ℕ, suc, ◌<◌, ◌≤◌, ⊤, Bool, false, ◌&&◌, ◌||◌, nat_eq, bytes_eq, IsTrue, List, [], ◌∷◌, length, map, find, Option, IfSome, Result, IfOk, IfErr, OnOk}
 use Rattle.std.specs.Option.{option_map, IsSomeAnd}
 use Rattle.std.specs.List.{AllByRecursion, list_any}
 use Rattle.std.specs.FinMap as finite
@@ -9,13 +9,12 @@ use Rattle.sqlite.specs.Effect.{Database}
 use Rattle.sqlite.specs.Held.{Held, state}
 use Rattle.sqlite.specs.Order.{Row}
 use Rattle.sqlite.specs.State.{State, HasCleanDisk, IsUnchanged, Survives}
-use Rattle.wb_sql.specs.Among.{HasOffice}
 use Rattle.wb_states.specs.declared.arch.OsCpu.{OsCpu}
 use Rattle.wb_states.specs.declared.counts.Counts.{Counts}
 use Rattle.wb_states.specs.declared.store_fault.StoreFault.{StoreFault}
 use Rattle.wb_states.specs.declared.store_fault.StoreFault.TheVariants.{Damaged, Memory, NewerSchema, NotOffice}
 use Rattle.wb_states.specs.declared.store_fault.Table.{Table}
-use Rattle.wb_states.specs.declared.store_fault.Table.TheVariants.{Office, SourceRecord}
+use Rattle.wb_states.specs.declared.store_fault.Table.TheVariants.{Office}
 use Rattle.wb_states.specs.Holds.{is_taken_as}
 use Rattle.wb_states.specs.Limits.{count_limit}
 use Rattle.wb_states.specs.Machine.{Key, Machine, AreWaits, HasDistinctTakes, IsArch, IsConsistent, IsRecord, with_words}
@@ -24,12 +23,15 @@ use Rattle.wb_states.specs.Queue.{Entry}
 use Rattle.wb_states.specs.Record.{IsWellFormed}
 use Rattle.deb_relations.specs.Names.{is_package_name}
 use Rattle.deb_text.specs.Options.{has_value}
-use Rattle.wb_rows.specs.Cells.{arch_cells, builder_cells, number, record_cells}
-use Rattle.wb_store.specs.Stands.{StandsFor, builder_pairs}
+use Rattle.wb_rows.specs.Cells.{arch_cells, builder_cells, number}
+use Rattle.wb_store.specs.Schemas.{IsKeptIn, cells_in, number_of, query_of_records, row_in, table_of_records}
+use Rattle.wb_store.specs.Stands.{builder_pairs}
 use Rattle.wb_store.specs.Calls.{FailsToRead}
-use Rattle.wb_store.specs.Lookups.{AreRowsOf, counts_row}
+use Rattle.wb_store.specs.Lookups.{AreRowsOf}
+use Rattle.wb_store.specs.declared.format.Format.{Format}
+use Rattle.wb_store.specs.declared.format.Format.TheVariants.{Two}
 use Rattle.wb_store.specs.Queries as ask
-use Rattle.wb_store.specs.Queries.{AnswersTo, OfficeQuery}
+use Rattle.wb_store.specs.Queries.{AnswersTo, HasAsked, OfficeQuery}
 
 -- the row has the columns of one that fits
 abbrev pub IsRowOf : {X : Type 0} → (X → Row) → (X → Type 0) → Row → Type 0
@@ -61,22 +63,22 @@ FailsToTest query Bad old new fault = FailsToRead query old new fault ⊎ (IsUnc
 -- a test of the rows of a table, which a query answers: if it succeeds, they are good, and the database stays as it is; if it fails, it fails
 -- for one of the reasons above; and a crash leaves no more than before
 pub record Tests {S A : Type 0} (g : Ghosts S) (query : OfficeQuery) (Good : List Row → A → Type 0) (Bad : List Row → StoreFault → Type 0) (old new : Held S) (result : Result A StoreFault) : Type 0 where
-  pub value : HasCleanDisk (state g new) → HasOffice old.schema → IfOk result (λ x. (rows : List Row) × AnswersTo query (state g old).now rows × Good rows x)
-  pub same : HasCleanDisk (state g new) → HasOffice old.schema → OnOk result (IsUnchanged (state g old) (state g new))
-  pub err : HasCleanDisk (state g new) → HasOffice old.schema → IfErr result (FailsToTest query Bad (state g old) (state g new))
-  pub survives : Survives (state g old) (state g new) (λ _. ¬ HasOffice old.schema)
+  pub value : HasCleanDisk (state g new) → HasAsked query old.schema → IfOk result (λ x. (rows : List Row) × AnswersTo query (state g old).now rows × Good rows x)
+  pub same : HasCleanDisk (state g new) → HasAsked query old.schema → OnOk result (IsUnchanged (state g old) (state g new))
+  pub err : HasCleanDisk (state g new) → HasAsked query old.schema → IfErr result (FailsToTest query Bad (state g old) (state g new))
+  pub survives : Survives (state g old) (state g new) (λ _. ¬ HasAsked query old.schema)
 
--- if this is true of the state, the tables of a consistent office pass the test, with this outcome: it fails only if memory ran out or its query
--- failed
-pub record PassesWith {S A : Type 0} (g : Ghosts S) (query : OfficeQuery) (Given : Machine → Type 0) (Outcome : Machine → A → Type 0) (old new : Held S) (result : Result A StoreFault) : Type 0 where
-  pub value : HasCleanDisk (state g new) → IfOk result (λ x. (machine : Machine) → StandsFor machine (state g old).now → Outcome machine x)
-  pub err : HasCleanDisk (state g new)
-      → IfErr result (λ fault. (machine : Machine) → IsConsistent machine → StandsFor machine (state g old).now → Given machine
+-- if this is true of the state, the table of a consistent office, which has its rows so, passes the test, with this outcome: it fails only if memory ran out
+-- or its query failed
+pub record PassesWith {S A : Type 0} (g : Ghosts S) (query : OfficeQuery) (Has : Machine → Database → Type 0) (Given : Machine → Type 0) (Outcome : Machine → A → Type 0) (old new : Held S) (result : Result A StoreFault) : Type 0 where
+  pub value : HasCleanDisk (state g new) → HasAsked query old.schema → IfOk result (λ x. (machine : Machine) → Has machine (state g old).now → Outcome machine x)
+  pub err : HasCleanDisk (state g new) → HasAsked query old.schema
+      → IfErr result (λ fault. (machine : Machine) → IsConsistent machine → Has machine (state g old).now → Given machine
       → (fault ≡ Memory) ⊎ FailsToRead query (state g old) (state g new) fault)
 
--- the tables of a consistent office pass the test, with this outcome
-abbrev pub Passes : {S A : Type 0} → Ghosts S → OfficeQuery → (Machine → A → Type 0) → Held S → Held S → Result A StoreFault → Type 0
-Passes g query = PassesWith g query (λ _. ⊤)
+-- the table of a consistent office passes the test, with this outcome
+abbrev pub Passes : {S A : Type 0} → Ghosts S → OfficeQuery → (Machine → Database → Type 0) → (Machine → A → Type 0) → Held S → Held S → Result A StoreFault → Type 0
+Passes g query Has = PassesWith g query Has (λ _. ⊤)
 
 -- an architecture whose name and words have their forms
 abbrev pub IsFormedArch : List ℕ × OsCpu → Type 0
@@ -104,30 +106,30 @@ HoldsBuilders archs = Holds builder_cells (IsFormedBuilder archs)
 abbrev pub HasFormat : ℕ → Row → Type 0
 HasFormat format row = (handed : Value) × (accepted : Value) × (row ≡ number format ∷ handed ∷ accepted ∷ [])
 
--- the row of an office of format 2 with these counts, each within its limit
-pub record IsOfficeRow (row : Row) (counts : Counts) : Type 0 where
-  pub same : row ≡ counts_row counts.handed counts.accepted
+-- the row of an office of a format with these counts, each within its limit
+pub record IsOfficeRow (format : Format) (row : Row) (counts : Counts) : Type 0 where
+  pub same : row ≡ row_in format counts.handed counts.accepted
   pub handed : counts.handed ≤ count_limit
   pub accepted : counts.accepted ≤ count_limit
 
--- there is one row, that of an office of this format
+-- there is one row, that of an office of the format with this number
 abbrev pub AreOfFormat : ℕ → List Row → Type 0
 AreOfFormat format rows = (row : Row) × HasFormat format row × (rows ≡ row ∷ [])
 
--- there is one row, that of an office with these counts
-abbrev pub HoldsCounts : List Row → Counts → Type 0
-HoldsCounts rows counts = (row : Row) × IsOfficeRow row counts × (rows ≡ row ∷ [])
+-- there is one row, that of an office of a format with these counts
+abbrev pub HoldsCounts : Format → List Row → Counts → Type 0
+HoldsCounts format rows counts = (row : Row) × IsOfficeRow format row counts × (rows ≡ row ∷ [])
 
 -- the row of the office is damaged, because its counts are not within their limits
-abbrev pub IsDamagedOffice : Row → StoreFault → Type 0
-IsDamagedOffice row fault = (fault ≡ Damaged Office 1) × ((counts : Counts) → ¬ IsOfficeRow row counts)
+abbrev pub IsDamagedOffice : Format → Row → StoreFault → Type 0
+IsDamagedOffice format row fault = (fault ≡ Damaged Office 1) × ((counts : Counts) → ¬ IsOfficeRow format row counts)
 
--- why rows are not the one row of an office: they have no format from 2 on, or a newer one, or counts beyond their limits
-abbrev pub AreBadCounts : List Row → StoreFault → Type 0
-AreBadCounts rows fault =
-    ((fault ≡ NotOffice) × ((format : ℕ) → AreOfFormat format rows → format < 2))
-    ⊎ (((fault ≡ NewerSchema) × ((format : ℕ) × (2 < format) × AreOfFormat format rows))
-    ⊎ (AreOfFormat 2 rows × ((row : Row) → rows ≡ row ∷ [] → IsDamagedOffice row fault)))
+-- why rows are not the one row of an office of a format: they have none, or another one up to 2, or one that is newer than both, or counts beyond their limits
+abbrev pub AreBadCounts : Format → List Row → StoreFault → Type 0
+AreBadCounts format rows fault =
+    ((fault ≡ NotOffice) × ((other : ℕ) → AreOfFormat other rows → (other ≤ 2) × (other ≢ number_of format)))
+    ⊎ (((fault ≡ NewerSchema) × ((newer : ℕ) × (2 < newer) × AreOfFormat newer rows))
+    ⊎ (AreOfFormat (number_of format) rows × ((row : Row) → rows ≡ row ∷ [] → IsDamagedOffice format row fault)))
 
 -- a builder and an architecture are one of these pairs
 abbrev pub has_pair : List Key → Key → Bool
@@ -147,10 +149,11 @@ pub record HasForms (entry : Entry) : Type 0 where
 abbrev pub IsGiven : ℕ → Option ℕ → Type 0
 IsGiven handed take = IfSome take (λ take_number. (1 ≤ take_number) × (take_number ≤ handed))
 
--- a record has its form, its holder is one of these builders, for its architecture, its take number was given, and its architecture is one of
+-- a record has its form, the schema can keep it, its holder is one of these builders, for its architecture, its take number was given, and its architecture is one of
 -- these, for which its waits are reduced
-pub record IsFormedRecord (archs : List (List ℕ × OsCpu)) (builders : List Key) (handed : ℕ) (entry : Entry) : Type 0 where
+pub record IsFormedRecord (format : Format) (archs : List (List ℕ × OsCpu)) (builders : List Key) (handed : ℕ) (entry : Entry) : Type 0 where
   pub forms : HasForms entry
+  pub kept : IsKeptIn format entry.1
   pub holder : IfSome entry.1.holder (λ holder. IsTrue (has_pair builders (holder, entry.0.0)))
   pub given : IsGiven handed entry.1.take
   pub waits : IsSomeAnd (words_among archs entry.0.0) (λ words. AreWaits (with_words entry.0.0 words) entry.1.waits)
@@ -160,20 +163,20 @@ abbrev pub HasOwnTake : List Entry → Entry → Type 0
 HasOwnTake before entry = IfSome entry.1.take (λ take_number. list_any (is_taken_as take_number) before ≡ false)
 
 -- a record has its form, and no record before it has its take number
-pub record FitsRecords (archs : List (List ℕ × OsCpu)) (builders : List Key) (handed : ℕ) (before : List Entry) (entry : Entry) : Type 0 where
-  pub formed : IsFormedRecord archs builders handed entry
+pub record FitsRecords (format : Format) (archs : List (List ℕ × OsCpu)) (builders : List Key) (handed : ℕ) (before : List Entry) (entry : Entry) : Type 0 where
+  pub formed : IsFormedRecord format archs builders handed entry
   pub own_take : HasOwnTake before entry
 
 -- a record has its form, and its take number, if it has one, is none of these
-pub record FitsBeside (archs : List (List ℕ × OsCpu)) (builders : List Key) (handed : ℕ) (has_take : ℕ → Bool) (entry : Entry) : Type 0 where
-  pub formed : IsFormedRecord archs builders handed entry
+pub record FitsBeside (format : Format) (archs : List (List ℕ × OsCpu)) (builders : List Key) (handed : ℕ) (has_take : ℕ → Bool) (entry : Entry) : Type 0 where
+  pub formed : IsFormedRecord format archs builders handed entry
   pub own_take : IfSome entry.1.take (λ take_number. has_take take_number ≡ false)
 
 -- the row is that of a record that fits beside the take numbers before it; those after it are these and its own
-pub record IsTestedRow (archs : List (List ℕ × OsCpu)) (builders : List Key) (handed : ℕ) (before after : ℕ → Bool) (row : Row) : Type 0 where
+pub record IsTestedRow (format : Format) (archs : List (List ℕ × OsCpu)) (builders : List Key) (handed : ℕ) (before after : ℕ → Bool) (row : Row) : Type 0 where
   pub entry : Entry
-  pub same : row ≡ record_cells entry
-  pub fits : FitsBeside archs builders handed before entry
+  pub same : row ≡ cells_in format entry
+  pub fits : FitsBeside format archs builders handed before entry
   pub among : (n : ℕ) → after n ≡ (before n || has_value (nat_eq n) entry.1.take)
 
 -- after these, each of those fits the ones before it
@@ -200,12 +203,12 @@ abbrev pub AreBadAfter : {X : Type 0} → Table → (X → Row) → (List X → 
 AreBadAfter table columns Fits rows fault = (fault ≡ Memory) ⊎ ((place : ℕ) × (fault ≡ Damaged table place) × IsFirstBadAfter columns Fits rows place)
 
 -- the rows are those of records with their forms, no two of which have one take number
-abbrev pub HoldsRecords : List (List ℕ × OsCpu) → List Key → ℕ → List Row → Type 0
-HoldsRecords archs builders handed = HoldsEach record_cells (FitsRecords archs builders handed)
+abbrev pub HoldsRecords : Format → List (List ℕ × OsCpu) → List Key → ℕ → List Row → Type 0
+HoldsRecords format archs builders handed = HoldsEach (cells_in format) (FitsRecords format archs builders handed)
 
 -- memory ran out, or the first row that is no record with its form, or that has the take number of a row before it, is damaged
-abbrev pub AreBadRecords : List (List ℕ × OsCpu) → List Key → ℕ → List Row → StoreFault → Type 0
-AreBadRecords archs builders handed = AreBadAfter SourceRecord record_cells (FitsRecords archs builders handed)
+abbrev pub AreBadRecords : Format → List (List ℕ × OsCpu) → List Key → ℕ → List Row → StoreFault → Type 0
+AreBadRecords format archs builders handed = AreBadAfter (table_of_records format) (cells_in format) (FitsRecords format archs builders handed)
 
 -- these architectures, pairs of builders and greatest take number are those of the state
 pub record AreKept (archs : List (List ℕ × OsCpu)) (builders : List Key) (handed : ℕ) (machine : Machine) : Type 0 where
@@ -222,12 +225,16 @@ pub record HasGoodRecords (machine : Machine) : Type 0 where
 abbrev pub ShowsGood : OfficeQuery → Database → (List Row → Type 0) → Type 0
 ShowsGood query db Good = (rows : List Row) × AnswersTo query db rows × Good rows
 
--- the rows of the office's tables are good, those of each table beside those of the others
-pub record HasGoodRows (db : Database) : Type 0 where
+-- the rows of the office's tables in a format are good, those of each table beside those of the others
+pub record HasGoodRowsIn (format : Format) (db : Database) : Type 0 where
   pub counts : Counts
   pub archs : List (List ℕ × OsCpu)
   pub builders : List Key
-  pub counts_held : ShowsGood ask.Office db (λ rows. HoldsCounts rows counts)
+  pub counts_held : ShowsGood ask.Office db (λ rows. HoldsCounts format rows counts)
   pub archs_held : ShowsGood ask.Archs db (λ rows. HoldsArchs rows archs)
   pub builders_held : ShowsGood ask.Builders db (λ rows. HoldsBuilders archs rows builders)
-  pub records_held : ShowsGood ask.Records db (HoldsRecords archs builders counts.handed)
+  pub records_held : ShowsGood (query_of_records format) db (HoldsRecords format archs builders counts.handed)
+
+-- those of the second schema
+abbrev pub HasGoodRows : Database → Type 0
+HasGoodRows = HasGoodRowsIn Two

@@ -9,6 +9,7 @@ use Rattle.sqlite.specs.State.{State, FailsToQuery, HasCleanDisk, IsUnchanged, S
 use Rattle.wb_sql.specs.Among.{HasOffice, LacksOffice}
 use Rattle.wb_sql.specs.Format.{AsksFormat, HasFormatColumn, format_place}
 use Rattle.wb_sql.specs.Transactions.{IsKeptOrUndone}
+use Rattle.wb_sql.specs.Upgrading.{HasFirstOffice}
 use Rattle.wb_states.specs.declared.store_fault.StoreFault.{StoreFault}
 use Rattle.wb_states.specs.declared.store_fault.StoreFault.TheVariants.{NewerSchema, NotOffice}
 use Rattle.wb_states.specs.declared.store_fault.Table.TheVariants.{Office}
@@ -26,9 +27,11 @@ pub record ShowsFormat (db : Database) (format : ℕ) : Type 0 where
 abbrev pub IsNewer : Database → Type 0
 IsNewer db = (format : ℕ) × (2 < format) × ShowsFormat db format
 
--- no office can be made in the database, and it shows no format from 2 on, or format 2 without the tables of that format
+-- no office can be made in the database, and it shows no format from 1 on, or format 1 or 2 without the tables of that format
 abbrev pub IsNoOffice : Database → Type 0
-IsNoOffice db = ¬ LacksOffice db.schema × ((format : ℕ) → ShowsFormat db format → (format < 2) ⊎ ((format ≡ 2) × ¬ HasOffice db.schema))
+IsNoOffice db =
+    ¬ LacksOffice db.schema
+    × ((format : ℕ) → ShowsFormat db format → ((format < 2) × (format ≡ 1 → ¬ HasFirstOffice db.schema)) ⊎ ((format ≡ 2) × ¬ HasOffice db.schema))
 
 -- the fault of the formats in these rows: that a newer program wrote them, if there is one format, above 2, and else that they are no office's
 abbrev pub IsFaultOfFormats : List Row → StoreFault → Type 0

@@ -4,6 +4,7 @@ pub mod Ending
 pub mod Faults
 pub mod Files
 pub mod Finds
+pub mod FirstOpening
 pub mod Formats
 pub mod Lookups
 pub mod MergeLaws
@@ -15,10 +16,12 @@ pub mod Others
 pub mod Preparing
 pub mod Queries
 pub mod Savepoints
+pub mod Schemas
 pub mod Scratch
 pub mod ScratchLookups
 pub mod ScratchWrites
 pub mod Settled
 pub mod Stands
 pub mod TableRows
+pub mod Upgrading
 pub mod Writes

@@ -13,7 +13,7 @@ use Rattle.wb_sql.specs.Among.{LacksOffice}
 use Rattle.wb_sql.specs.Making.{FailsAt, MakesOffice}
 use Rattle.wb_states.specs.Machine.{Machine, empty_office}
 use Rattle.wb_store.specs.Settled.{begun}
-use Rattle.wb_store.specs.Settled.{StandsForTrees, IsSettled}
+use Rattle.wb_store.specs.Settled.{IsFirstOffice, IsSettled, IsSettledFirst, StandsForFirstTrees, StandsForTrees}
 
 -- a connection without a transaction, whose database lacks the office's tables, and of which a crash leaves only that
 pub record IsBlank (s : State) : Type 0 where
@@ -36,13 +36,13 @@ pub record AreBlank (trees : Trees) : Type 0 where
   pub sound : IsSound schema trees
   pub lacks : LacksOffice schema
 
--- trees that hold the office in this state, or the empty office of which no table is made yet
+-- trees that hold the office in this state, in either schema, or the empty office of which no table is made yet
 abbrev pub HoldOffice : Machine → Trees → Type 0
-HoldOffice machine db = StandsForTrees machine db ⊎ ((machine ≡ empty_office) × AreBlank db)
+HoldOffice machine db = StandsForTrees machine db ⊎ (((machine ≡ empty_office) × AreBlank db) ⊎ StandsForFirstTrees machine db)
 
--- a connection that finds an office in this state, or a database that lacks the office's tables, which is an empty office
+-- a connection that finds an office in this state, in either schema, or a database that lacks the office's tables, which is an empty office
 abbrev pub IsFoundAt : Machine → State → Type 0
-IsFoundAt machine s = IsSettled machine s ⊎ ((machine ≡ empty_office) × IsBlank s)
+IsFoundAt machine s = IsSettled machine s ⊎ (((machine ≡ empty_office) × IsBlank s) ⊎ IsSettledFirst machine s)
 
 -- whatever a crash leaves is found to be an office in this state
 abbrev pub LeavesFound : Machine → State → Type 0
@@ -51,6 +51,13 @@ LeavesFound machine s = (db : Trees) → s.may_leave db → HoldOffice machine d
 -- a crash leaves what it could leave before, or, of a database that lacked the office's tables, that of an empty office
 abbrev pub LeavesOrMakes : State → State → Type 0
 LeavesOrMakes old new = (db : Trees) → new.may_leave db → old.may_leave db ⊎ (LacksOffice old.now.schema × StandsForTrees empty_office db)
+
+-- a crash leaves what it could leave before, or, of a database that lacked the office's tables, that of an empty office, or, of an office of the first schema, the
+-- same state in the second
+abbrev pub LeavesPrepared : State → State → Type 0
+LeavesPrepared old new =
+    (db : Trees) → new.may_leave db
+    → old.may_leave db ⊎ ((LacksOffice old.now.schema × StandsForTrees empty_office db) ⊎ ((machine : Machine) × IsFirstOffice machine old.now × StandsForTrees machine db))
 
 -- why an office is not made in the transaction that began: a statement of the making failed, or, after all of them, the commit
 abbrev pub FailsToMake : {S : Type 0} → Ghosts S → Held S → Error → Type 0

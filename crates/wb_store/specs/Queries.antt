@@ -1,13 +1,15 @@
 -- The queries on the office's tables: what each asks of which table, with which parameters.
-use Rattle.std.specs.Prelude.{◌≡◌, ◌⊎◌, ℕ, ◌^◌, ◌-◌, min, List, [], ◌∷◌, length}
+use Rattle.std.specs.Prelude.{◌≡◌, ◌⊎◌, ⊤, ℕ, ◌^◌, ◌-◌, min, List, [], ◌∷◌, length}
 use Rattle.sqlite.specs.Effect.{Database}
 use Rattle.sqlite.specs.Order.{Row}
+use Rattle.sqlite.specs.Schema.{Schema}
 use Rattle.sqlite.specs.Table as stored
 use Rattle.sqlite.specs.declared.types.Value.TheVariants.{Text}
 use Rattle.wb_sql.specs.Queries.{TableQuery, Answers}
-use Rattle.wb_sql.specs.Among.{AsksAmong, rows_in}
+use Rattle.wb_sql.specs.Among.{AsksAmong, HasTable, rows_in, table_in}
 use Rattle.wb_sql.specs.OfficeStatements as sql
 use Rattle.wb_sql.specs.ScratchStatements as merge
+use Rattle.wb_sql.specs.FirstSchema as first
 use Rattle.wb_sql.specs.Tables as tables
 use Rattle.wb_states.specs.declared.store_fault.Table.{Table}
 use Rattle.wb_states.specs.declared.store_fault.Table.TheVariants as on
@@ -24,6 +26,12 @@ table_of on.Builder = tables.builder
 table_of on.SourceRecord = tables.source_record
 table_of on.ScratchSource = tables.scratch_source
 table_of on.ScratchBinary = tables.scratch_binary
+table_of on.SourceState = tables.source_state
+
+-- it is a table of the second schema, which each office has
+abbrev pub IsCurrent : Table → Type 0
+IsCurrent on.SourceState = ⊥
+IsCurrent _ = ⊤
 
 -- a query on one of the office's tables
 pub data OfficeQuery : Type 0 where
@@ -59,6 +67,9 @@ pub data OfficeQuery : Type 0 where
   SourcesNamed : List ℕ → OfficeQuery
   BinariesOf : List ℕ → OfficeQuery
   BinariesNamed : List ℕ → OfficeQuery
+  -- all records of the first schema, and one of them
+  States : OfficeQuery
+  OneState : OfficeQuery
 
 -- the table that it is on
 abbrev pub table_asked : OfficeQuery → Table
@@ -86,6 +97,8 @@ table_asked SourceNames = on.ScratchSource
 table_asked (SourcesNamed name) = on.ScratchSource
 table_asked (BinariesOf source) = on.ScratchBinary
 table_asked (BinariesNamed name) = on.ScratchBinary
+table_asked States = on.SourceState
+table_asked OneState = on.SourceState
 
 -- what it asks
 abbrev pub query_asked : OfficeQuery → TableQuery
@@ -113,6 +126,8 @@ query_asked SourceNames = merge.source_names
 query_asked (SourcesNamed name) = merge.sources_named
 query_asked (BinariesOf source) = merge.binaries_of_source
 query_asked (BinariesNamed name) = merge.binaries_named
+query_asked States = first.all_states
+query_asked OneState = first.first_state
 
 -- its parameters: the queue has the records of the state of code 0, which wait for a builder, and a take number that is too great for SQL is
 -- asked as the greatest number, 2^63 - 1, which no record has
@@ -141,14 +156,20 @@ given_to SourceNames = []
 given_to (SourcesNamed name) = Text name ∷ []
 given_to (BinariesOf source) = Text source ∷ []
 given_to (BinariesNamed name) = Text name ∷ []
+given_to States = []
+given_to OneState = []
 
--- it is for one row of a scratch table
-abbrev pub IsScratch : OfficeQuery → Type 0
-IsScratch query = (query ≡ OneSource) ⊎ (query ≡ OneBinary)
+-- it is for one row of a table that has none in an office at rest: of a scratch table, or of the records of the first schema
+abbrev pub IsForOne : OfficeQuery → Type 0
+IsForOne query = (query ≡ OneSource) ⊎ ((query ≡ OneBinary) ⊎ (query ≡ OneState))
 
 -- over each schema that has the table, the text asks this, and has as many parameters as are given
 abbrev pub IsTextOfQuery : OfficeQuery → List ℕ → Type 0
 IsTextOfQuery query sql = AsksAmong (table_of (table_asked query)) sql (query_asked query) (length (given_to query))
+
+-- the schema has the table that the query is on
+abbrev pub HasAsked : OfficeQuery → Schema → Type 0
+HasAsked query schema = HasTable schema (table_in schema (table_of (table_asked query)))
 
 -- these rows are what a database answers to the query
 abbrev pub AnswersTo : OfficeQuery → Database → List Row → Type 0

@@ -15,7 +15,7 @@ use Rattle.wb_states.specs.declared.store_fault.StoreFault.{StoreFault}
 use Rattle.wb_states.specs.declared.store_fault.StoreFault.TheVariants.{Memory}
 use Rattle.wb_states.specs.Machine.{Machine}
 use Rattle.wb_store.specs.Merging.{Scratch, no_merge}
-use Rattle.wb_store.specs.Stands.{StandsFor, StandsWith}
+use Rattle.wb_store.specs.Stands.{StandsFor, StandsForFirst, StandsWith}
 
 -- the trees hold the office's tables, beside those of others, as their catalogue lists them, with the rows of this state
 pub record StandsForTrees (machine : Machine) (trees : Trees) : Type 0 where
@@ -28,12 +28,30 @@ pub record IsOffice (machine : Machine) (db : Database) : Type 0 where
   pub sound : IsSound db.schema db.trees
   pub stands : StandsFor machine db
 
+-- the database is an office of the first schema in this state, whose catalogue lists its schema
+pub record IsFirstOffice (machine : Machine) (db : Database) : Type 0 where
+  pub sound : IsSound db.schema db.trees
+  pub stands : StandsForFirst machine db
+
+-- the trees are those of such an office
+pub record StandsForFirstTrees (machine : Machine) (trees : Trees) : Type 0 where
+  pub schema : Schema
+  pub office : IsFirstOffice machine (record { schema = schema; trees = trees })
+
 -- a connection without a transaction, whose database stands for this state, and of which a crash leaves only that
 pub record IsSettled (machine : Machine) (s : State) : Type 0 where
   pub is_open : IsTrue s.is_open
   pub idle : s.in_transaction ≡ false
   pub committed : s.now ≡ s.committed
   pub holds : IsOffice machine s.now
+  pub alone : LeavesAlone s s.now.trees
+
+-- a connection without a transaction, whose database is an office of the first schema in this state, and of which a crash leaves only that
+pub record IsSettledFirst (machine : Machine) (s : State) : Type 0 where
+  pub is_open : IsTrue s.is_open
+  pub idle : s.in_transaction ≡ false
+  pub committed : s.now ≡ s.committed
+  pub holds : IsFirstOffice machine s.now
   pub alone : LeavesAlone s s.now.trees
 
 -- a transaction under way: it began from the state `before`, which is committed and is all that a crash leaves, and its database stands for `now` with

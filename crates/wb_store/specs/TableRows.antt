@@ -41,6 +41,7 @@ rows_of_table machine scratch on.Builder = builder_rows machine
 rows_of_table machine scratch on.SourceRecord = record_rows machine
 rows_of_table machine scratch on.ScratchSource = map source_cells scratch.sources
 rows_of_table machine scratch on.ScratchBinary = map binary_cells scratch.binaries
+rows_of_table machine scratch on.SourceState = []
 
 -- rows of one table, each with the table
 abbrev pub with_table : Table → List Row → List (Table × Row)
@@ -63,6 +64,7 @@ query_of_table on.Builder = ask.Builders
 query_of_table on.SourceRecord = ask.Records
 query_of_table on.ScratchSource = ask.Sources
 query_of_table on.ScratchBinary = ask.Binaries
+query_of_table on.SourceState = ask.States
 
 -- the row is that of cells that are shown
 abbrev pub HasCells : Row → Type 0

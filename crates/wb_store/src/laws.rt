@@ -12,8 +12,9 @@ use crate::checks::other_fault;
 use crate::fault_of;
 use crate::opening::check;
 use crate::preparing::make_office;
+use crate::upgrading::bring_over;
 use sqlite::{Alter, Connection};
-use wb_sql::{has_office_tables, lacks_office};
+use wb_sql::{has_first_office_tables, has_office_tables, lacks_office};
 use wb_states::{Counts, StoreFault, Table};
 
 /// A state for which a database stands is consistent, if the rows of its tables are good: those that
@@ -33,8 +34,9 @@ pub fn rows_are_of_one_state()
 {}
 
 /// Prepares the database of an office, and answers the two counts of the office that it holds, or of an empty one, whose
-/// tables are made first if the database lacks them, as [`lacks_office`] says. Tables of others may stand beside them, as
-/// [`has_office_tables`] says. [`Store::adopt`](crate::Store::adopt) is this call, with the connection that it is given.
+/// tables are made first if the database lacks them, as [`lacks_office`] says. An office of the first schema, as
+/// [`has_first_office_tables`] says, is brought over into the second once all its rows were tested. Tables of others may stand
+/// beside them, as [`has_office_tables`] says. [`Store::adopt`](crate::Store::adopt) is this call, with the connection that it is given.
 /// The faults of a database that neither has the office's tables nor lacks them are `NewerSchema` if its table `office`
 /// shows a format above 2, and else `NotOffice`. The others are that of the first test that fails, and before it that of
 /// the table of the office if the tables cannot be made. What was there stays as it is, but for a transaction that a
@@ -46,6 +48,9 @@ pub fn prepare<S: Alter>(conn: &mut Connection<S>) -> Result<Counts, StoreFault>
 {
     if has_office_tables(conn.schema()) {
         return check(conn);
+    }
+    if has_first_office_tables(conn.schema()) {
+        return bring_over(conn);
     }
     if !lacks_office(conn.schema()) {
         return Err(other_fault(conn));

@@ -28,7 +28,7 @@ pub(crate) fn make_office<S: Alter>(conn: &mut Connection<S>) -> Result<(), Erro
 }
 
 /// The error of `sqlite` for which a commit is not known to be made.
-fn cause_of(why: CommitError) -> Error
+pub(crate) fn cause_of(why: CommitError) -> Error
     ensures value { result ≡ cause_of why }
 {
     match why {

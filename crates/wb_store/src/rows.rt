@@ -1,9 +1,10 @@
 //! All rows of the office's tables, as cells.
 ghost use Rattle.std.specs.Prelude.{◌≡◌, ◌++◌, map as each, IfOk, IfErr, OnOk};
+ghost use Rattle.std.specs.List.{AllByRecursion};
 ghost use Rattle.wb_rows.specs.Shown.{AreReadableCells, row_of, values_of};
 ghost use Rattle.wb_store.specs.Faults.{IsUnfit};
 ghost use Rattle.wb_store.specs.Lookups.{AreRowsOf};
-ghost use Rattle.wb_store.specs.Queries.{IsTextOfQuery};
+ghost use Rattle.wb_store.specs.Queries.{IsCurrent, IsTextOfQuery};
 ghost use Rattle.wb_store.specs.TableRows.{HasCells, ShowsAll, ShowsRows, ShowsTable, query_of_table, with_table};
 
 use crate::fault::unfit;
@@ -14,7 +15,7 @@ use deb_text::Items;
 use sqlite::{Alter, Connection, Row};
 use std::alloc::Global;
 use wb_rows::{TableRow, cells_of};
-use wb_sql::{scratch, statements};
+use wb_sql::{first_schema, scratch, statements};
 use wb_states::{StoreFault, Table};
 
 impl<S: Alter + Drop> Store<S> {
@@ -60,14 +61,15 @@ fn all_rows<S: Alter>(
     Ok(made)
 }
 
-/// Adds the rows of these tables, one table after another.
+/// Adds the rows of these tables of the second schema, one table after another.
 fn add_tables<S: Alter>(
     alloc: Global,
     conn: &mut Connection<S>,
     tables: &[Table],
     made: &mut Items<TableRow>,
 ) -> Result<(), StoreFault>
-    ensures shows { ShowsRows S.Store tables.now (each row_of made.old) (each row_of made.new) conn.old conn.new result }
+    ensures shows { AllByRecursion IsCurrent tables.now
+        → ShowsRows S.Store tables.now (each row_of made.old) (each row_of made.new) conn.old conn.new result }
 {
     for table in tables {
         add_table(alloc, conn, *table, made)?;
@@ -75,14 +77,15 @@ fn add_tables<S: Alter>(
     Ok(())
 }
 
-/// Adds the rows of a table, by its key.
+/// Adds the rows of a table of the second schema, by its key.
 fn add_table<S: Alter>(
     alloc: Global,
     conn: &mut Connection<S>,
     table: Table,
     made: &mut Items<TableRow>,
 ) -> Result<(), StoreFault>
-    ensures shows { ShowsTable S.Store table (each row_of made.old) (each row_of made.new) conn.old conn.new result }
+    ensures shows { IsCurrent table
+        → ShowsTable S.Store table (each row_of made.old) (each row_of made.new) conn.old conn.new result }
 {
     let found = rows_of(conn, table, rows_query(table), &[])?;
     add_rows(alloc, table, found, made)
@@ -99,6 +102,7 @@ fn rows_query(table: Table) -> &'static str
         Table::SourceRecord => statements::all_records(),
         Table::ScratchSource => scratch::all_sources(),
         Table::ScratchBinary => scratch::all_binaries(),
+        Table::SourceState => first_schema::all_states(),
     }
 }
 

@@ -11,13 +11,14 @@ use std::io::Write;
 use wb_states::{ListField, ListKind, ListingFault, Refusal, State, StoreFault, Table};
 
 /// The tables, whose names the message of a damaged one has.
-const TABLES: [Table; 6] = [
+const TABLES: [Table; 7] = [
     Table::Office,
     Table::Arch,
     Table::Builder,
     Table::SourceRecord,
     Table::ScratchSource,
     Table::ScratchBinary,
+    Table::SourceState,
 ];
 
 /// The states, whose names the message of a refused move has.

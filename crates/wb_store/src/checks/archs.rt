@@ -5,6 +5,7 @@ ghost use Rattle.wb_states.specs.Machine.{IsArch};
 ghost use Rattle.wb_states.specs.declared.store_fault.Table.TheVariants.{Arch};
 ghost use Rattle.wb_rows.specs.Cells.{arch_cells};
 ghost use Rattle.wb_store.specs.Faults.{IsBadRow};
+ghost use Rattle.wb_store.specs.Stands.{HasArchsOf};
 ghost use Rattle.wb_store.specs.Checks.{AreBadRows, HoldsArchs, IsFormedArch, IsRowOf, Passes, Tests};
 ghost use Rattle.wb_store.specs.Queries as ask;
 
@@ -22,7 +23,7 @@ use wb_states::{OsCpu, StoreFault, Table, is_arch, is_os_cpu};
 pub fn check_archs<S: Alter>(conn: &mut Connection<S>) -> Result<Vec<(Text, OsCpu)>, StoreFault>
     ensures tests { Tests S.Store ask.Archs (λ rows archs. HoldsArchs rows archs.items)
         (AreBadRows Arch arch_cells IsFormedArch) conn.old conn.new result }
-    ensures passes { Passes S.Store ask.Archs (λ machine archs.
+    ensures passes { Passes S.Store ask.Archs HasArchsOf (λ machine archs.
         archs.items ≡ map.entries machine.archs) conn.old conn.new result }
 {
     archs_in(rows_of(conn, Table::Arch, statements::all_archs(), &[])?)

@@ -3,7 +3,7 @@ ghost use Rattle.std.specs.Prelude.{◌≡◌, ◌↔◌, IfOk, IfErr, IsTrue};
 ghost use Rattle.std.specs.FinMap as map;
 ghost use Rattle.wb_states.specs.declared.store_fault.Table.TheVariants.{Builder};
 ghost use Rattle.wb_rows.specs.Cells.{builder_cells};
-ghost use Rattle.wb_store.specs.Stands.{builder_pairs};
+ghost use Rattle.wb_store.specs.Stands.{HasBuildersOf, builder_pairs};
 ghost use Rattle.wb_store.specs.Faults.{IsBadRow};
 ghost use Rattle.wb_store.specs.Checks.{AreBadRows, HoldsBuilders, IsFormedBuilder, IsRowOf, PassesWith, Tests, has_arch};
 ghost use Rattle.wb_store.specs.Queries as ask;
@@ -26,7 +26,7 @@ pub fn check_builders<S: Alter>(
 ) -> Result<Vec<(Text, Text)>, StoreFault>
     ensures tests { Tests S.Store ask.Builders (λ rows pairs. HoldsBuilders archs.now rows pairs.items)
         (AreBadRows Builder builder_cells (IsFormedBuilder archs.now)) conn.old conn.new result }
-    ensures passes { PassesWith S.Store ask.Builders (λ machine. archs.now ≡ map.entries machine.archs)
+    ensures passes { PassesWith S.Store ask.Builders HasBuildersOf (λ machine. archs.now ≡ map.entries machine.archs)
         (λ machine pairs. pairs.items ≡ builder_pairs machine) conn.old conn.new result }
 {
     let rows = rows_of(conn, Table::Builder, statements::all_builders(), &[])?;

@@ -4,36 +4,42 @@ ghost use Rattle.sqlite.specs.Order.{column};
 ghost use Rattle.wb_states.specs.declared.store_fault.Table.TheVariants.{Office};
 ghost use Rattle.wb_states.specs.Limits.{count_limit};
 ghost use Rattle.wb_rows.specs.Cells.{number};
+ghost use Rattle.wb_store.specs.Stands.{HasCountsOf};
 ghost use Rattle.wb_store.specs.Checks.{AreBadCounts, HasFormat, HoldsCounts, IsDamagedOffice, IsOfficeRow, Passes, Tests};
 ghost use Rattle.wb_store.specs.Queries as ask;
+ghost use Rattle.wb_store.specs.Schemas.{number_of};
 
+use crate::format::Format;
 use crate::reading::rows_of;
 use sqlite::types::ValueRef;
 use sqlite::{Alter, Connection, Row};
 use wb_sql::statements;
 use wb_states::{COUNT_LIMIT, Counts, StoreFault, Table};
 
-/// The format of the tables that this program writes and reads.
-pub(crate) const FORMAT: u64 = 2;
+/// The number of the newest format that this program knows.
+pub(crate) const NEWEST: u64 = 2;
 
-/// The two counts of the office, if its table has one row, of this program's format 2, and each count is at most
-/// [`COUNT_LIMIT`]. The faults are `NotOffice` if there is no row, or more than one, or the format is below 2,
-/// `NewerSchema` if the format is above 2, `Damaged` with row 1 if a count is below 0 or above its limit, and those of
+/// The two counts of the office, if its table has one row, of this format, and each count is at most [`COUNT_LIMIT`]. The
+/// faults are `NotOffice` if there is no row, or more than one, or it is of another format up to 2, `NewerSchema` if its
+/// format is above 2, `Damaged` with row 1 if a count is below 0 or above its limit, and those of
 /// the query. The database stays as it is, but for a transaction that a failure of the query takes back (this
 /// project's own).
-pub fn check_counts<S: Alter>(conn: &mut Connection<S>) -> Result<Counts, StoreFault>
-    ensures tests { Tests S.Store ask.Office HoldsCounts AreBadCounts conn.old conn.new result }
-    ensures passes { Passes S.Store ask.Office (λ machine counts. (counts.handed ≡ machine.handed)
+pub fn check_counts<S: Alter>(
+    conn: &mut Connection<S>,
+    format: Format,
+) -> Result<Counts, StoreFault>
+    ensures tests { Tests S.Store ask.Office (HoldsCounts format) (AreBadCounts format) conn.old conn.new result }
+    ensures passes { Passes S.Store ask.Office (HasCountsOf format) (λ machine counts. (counts.handed ≡ machine.handed)
         × (counts.accepted ≡ machine.accepted)) conn.old conn.new result }
 {
     let rows = rows_of(conn, Table::Office, statements::office_counts(), &[])?;
-    counts_in(&rows)
+    counts_in(&rows, format)
 }
 
-/// The counts in these rows, or why they are not those of an office.
-fn counts_in(rows: &[Row]) -> Result<Counts, StoreFault>
-    ensures value { IfOk result (λ counts. HoldsCounts rows.now counts) }
-    ensures err { IfErr result (λ fault. AreBadCounts rows.now fault) }
+/// The counts in these rows, or why they are not those of an office of this format.
+fn counts_in(rows: &[Row], wanted: Format) -> Result<Counts, StoreFault>
+    ensures value { IfOk result (λ counts. HoldsCounts wanted rows.now counts) }
+    ensures err { IfErr result (λ fault. AreBadCounts wanted rows.now fault) }
 {
     let [row] = rows else {
         return Err(StoreFault::NotOffice);
@@ -41,13 +47,13 @@ fn counts_in(rows: &[Row]) -> Result<Counts, StoreFault>
     let Some(format) = format_in(row) else {
         return Err(StoreFault::NotOffice);
     };
-    if format < FORMAT {
-        return Err(StoreFault::NotOffice);
-    }
-    if format > FORMAT {
+    if format > NEWEST {
         return Err(StoreFault::NewerSchema);
     }
-    counts_of(row)
+    if format != wanted.number() {
+        return Err(StoreFault::NotOffice);
+    }
+    counts_of(row, wanted)
 }
 
 /// The format in the row of an office, which has three columns.
@@ -63,10 +69,10 @@ fn format_in(row: &Row) -> Option<u64>
 }
 
 /// The counts in the row of an office of this format.
-fn counts_of(row: &Row) -> Result<Counts, StoreFault>
-    requires { HasFormat 2 row.now }
-    ensures value { IfOk result (λ counts. IsOfficeRow row.now counts) }
-    ensures err { IfErr result (λ fault. IsDamagedOffice row.now fault) }
+fn counts_of(row: &Row, format: Format) -> Result<Counts, StoreFault>
+    requires { HasFormat (number_of format) row.now }
+    ensures value { IfOk result (λ counts. IsOfficeRow format row.now counts) }
+    ensures err { IfErr result (λ fault. IsDamagedOffice format row.now fault) }
 {
     match (count_at(row, 1), count_at(row, 2)) {
         (Some(handed), Some(accepted)) => Ok(Counts { handed, accepted }),

@@ -3,7 +3,7 @@ ghost use Rattle.std.specs.Prelude.{◌≡◌, ◌≢◌, ℕ, [], ◌∷◌, If
 ghost use Rattle.wb_rows.specs.Cells.{number};
 ghost use Rattle.wb_store.specs.Formats.{IsFaultOfFormats, TellsOther};
 
-use crate::checks::counts::{FORMAT, number_at};
+use crate::checks::counts::{NEWEST, number_at};
 use crate::reading::rows_of;
 use sqlite::{Alter, Connection, Row};
 use wb_sql::{has_format_column, statements};
@@ -40,7 +40,7 @@ fn fault_of_format(row: &Row) -> StoreFault
     ensures value { IsFaultOfFormats (row.now ∷ []) result }
 {
     match format_alone(row) {
-        Some(format) if format > FORMAT => StoreFault::NewerSchema,
+        Some(format) if format > NEWEST => StoreFault::NewerSchema,
         _ => StoreFault::NotOffice,
     }
 }

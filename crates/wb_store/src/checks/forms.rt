@@ -11,27 +11,32 @@ ghost use Rattle.deb_relations.specs.Reduction.{reduced};
 ghost use Rattle.wb_states.specs.Limits.{relations_limit};
 ghost use Rattle.wb_states.specs.Machine.{AreWaits, with_words};
 ghost use Rattle.wb_states.specs.Lookups.{entry_of};
+ghost use Rattle.wb_store.specs.Schemas.{IsKeptIn};
 ghost use Rattle.wb_store.specs.Checks.{HasForms, IsFormedRecord, IsGiven, has_pair, words_among};
 
+use crate::format::Format;
 use deb_relations::{ArchWords, RelationFault, Relations};
 use deb_text::Text;
 use std::alloc::{AllocError, Global};
 use wb_rows::is_well_formed;
 use wb_states::{KeyedRecord, OsCpu, is_arch, is_source};
 
-/// What the other tables hold, beside which the records are tested.
+/// The format of the records, and what the other tables hold, beside which they are tested.
 #[derive(Drop)]
 pub(super) struct Kept<'a> {
     pub(super) alloc: Global,
+    pub(super) format: Format,
     pub(super) archs: &'a [(Text, OsCpu)],
     pub(super) builders: &'a [(Text, Text)],
     pub(super) handed: u64,
 }
 
-/// Whether the record has its form, beside what the other tables hold. The only error is that memory ran out.
+/// Whether the record, which its schema can keep, has its form, beside what the other tables hold. The only error is that
+/// memory ran out.
 pub(super) fn is_formed(read: &KeyedRecord, kept: &Kept<'_>) -> Result<bool, AllocError>
+    requires kept { IsKeptIn kept.now.format read.now.current }
     ensures value { IfOk result (λ is. IsTrue is
-        ↔ IsFormedRecord kept.now.archs.now kept.now.builders.now kept.now.handed (entry_of read.now)) }
+        ↔ IsFormedRecord kept.now.format kept.now.archs.now kept.now.builders.now kept.now.handed (entry_of read.now)) }
 {
     if !has_forms(read)
         || !is_builder_of(read, kept.builders)

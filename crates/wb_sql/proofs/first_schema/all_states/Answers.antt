@@ -1,7 +1,8 @@
 use Rattle.std.proofs.Common.{refl, None, [], codes, map, ◌∷◌}
 use Rattle.sqlite_tied.specs.Compute.{everything}
 use Rattle.wb_sql.specs.Tables.{text}
-use Rattle.wb_sql.specs.FirstSchema.{all_states, source_state}
+use Rattle.wb_sql.specs.FirstSchema.{all_states}
+use Rattle.wb_sql.specs.Tables.{source_state}
 use Rattle.wb_sql.specs.OfficeStatements.{no_limit}
 use Rattle.wb_sql.proofs.SelectForm.{select}
 use Rattle.wb_sql.proofs.ShownLemmas.{name_of}

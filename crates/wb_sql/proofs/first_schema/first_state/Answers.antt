@@ -1,6 +1,7 @@
 use Rattle.std.proofs.Common.{refl, [], codes, Some, map, pos}
 use Rattle.sqlite_tied.specs.Compute.{everything}
-use Rattle.wb_sql.specs.FirstSchema.{first_state, source_state}
+use Rattle.wb_sql.specs.FirstSchema.{first_state}
+use Rattle.wb_sql.specs.Tables.{source_state}
 use Rattle.wb_sql.proofs.SelectForm.{select}
 use Rattle.wb_sql.proofs.ShownLemmas.{name_of}
 use Rattle.wb_sql.proofs.FirstSchemaLemmas.{arch_columns, arch_columns_are}

@@ -1,9 +1,10 @@
 use Rattle.std.proofs.Common.{◌≡◌, ℕ, [], ◌∷◌, map, refl, sym, ap, ap₂, ◌∙◌}
 use Rattle.std.specs.Fmt.{digits}
 use Rattle.sqlite_catalog.specs.Listing.{automatic}
-use Rattle.wb_sql.specs.FirstSchema.{source_state, state_order}
+use Rattle.wb_sql.specs.Tables.{source_state, state_order}
 use Rattle.wb_sql.specs.Among.{index_at}
-use Rattle.wb_sql.specs.Recognition.{indexes_of, indexes_on, treeless}
+use Rattle.wb_sql.specs.Recognition.{indexes_of}
+use Rattle.wb_sql.specs.Among.{indexes_on, treeless}
 use Rattle.wb_sql.proofs.RecognitionLemmas.{indexed_by, indexes_of_found, found_of}
 use Rattle.wb_sql.proofs.first_schema.has_states.Goals as goal
 

@@ -1,7 +1,7 @@
 use Rattle.std.proofs.Common.{refl}
 use Rattle.sqlite_tied.specs.Compute.{everything}
 use Rattle.sqlite_resolve.specs.Compile.{first}
-use Rattle.wb_sql.specs.FirstSchema.{source_state, state_order}
+use Rattle.wb_sql.specs.Tables.{source_state, state_order}
 use Rattle.wb_sql.proofs.CreateLemmas.{index_among}
 use Rattle.wb_sql.proofs.first_schema.queue_order.Goals as goal
 

@@ -1,7 +1,7 @@
 use Rattle.std.proofs.Common.{refl}
 use Rattle.sqlite_tied.specs.Compute.{everything}
 use Rattle.sqlite_resolve.specs.Compile.{first}
-use Rattle.wb_sql.specs.FirstSchema.{source_state}
+use Rattle.wb_sql.specs.Tables.{source_state}
 use Rattle.wb_sql.proofs.CreateLemmas.{table_among}
 use Rattle.wb_sql.proofs.first_schema.source_state.Goals as goal
 

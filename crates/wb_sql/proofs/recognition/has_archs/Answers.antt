@@ -3,7 +3,8 @@ use Rattle.std.specs.Fmt.{digits}
 use Rattle.sqlite_catalog.specs.Listing.{automatic}
 use Rattle.wb_sql.specs.Tables.{arch}
 use Rattle.wb_sql.specs.Among.{index_at}
-use Rattle.wb_sql.specs.Recognition.{indexes_of, indexes_on, treeless}
+use Rattle.wb_sql.specs.Recognition.{indexes_of}
+use Rattle.wb_sql.specs.Among.{indexes_on, treeless}
 use Rattle.wb_sql.proofs.RecognitionLemmas.{indexed_by, indexes_of_found, found_of}
 use Rattle.wb_sql.proofs.recognition.has_archs.Goals as goal
 

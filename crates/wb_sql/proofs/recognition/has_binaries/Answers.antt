@@ -2,7 +2,8 @@ use Rattle.std.proofs.Common.{◌≡◌, ℕ, [], ◌∷◌, map, refl, sym, ap,
 use Rattle.std.specs.Fmt.{digits}
 use Rattle.wb_sql.specs.Tables.{scratch_binary, binary_source, binary_name}
 use Rattle.wb_sql.specs.Among.{index_at}
-use Rattle.wb_sql.specs.Recognition.{indexes_of, indexes_on, treeless}
+use Rattle.wb_sql.specs.Recognition.{indexes_of}
+use Rattle.wb_sql.specs.Among.{indexes_on, treeless}
 use Rattle.wb_sql.proofs.RecognitionLemmas.{indexed_by, indexes_of_found, found_of}
 use Rattle.wb_sql.proofs.recognition.has_binaries.Goals as goal
 

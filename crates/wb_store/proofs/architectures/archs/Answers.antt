@@ -8,15 +8,15 @@ use Rattle.wb_store.proofs.ReadLemmas.{asks_of, handed_on, looks_up_nothing, loo
 use Rattle.wb_store.proofs.architectures.archs.Goals as goal
 
 pub returns-in_err-rows_of : goal.returns-in_err-rows_of
-returns-in_err-rows_of g c = record { looks_up = looks_up_nothing (asks_of ask.Archs c.all_archs.ensures refl) c.in_err-rows_of.ensures.reads (handed_on c.from_residual.result c.from_residual.ensures.1) }
+returns-in_err-rows_of g c = record { looks_up = looks_up_nothing (asks_of ask.Archs tt c.all_archs.ensures refl) c.in_err-rows_of.ensures.reads (handed_on c.from_residual.result c.from_residual.ensures.1) }
 
 pub returns : goal.returns
 returns g c =
     let db = (state g.S.Store c.args.conn.now).now in
     let rows = c.in_ok-rows_of.field-0.items in
     record {
-      looks_up = looks_up_rows (asks_of ask.Archs c.all_archs.ensures refl) (AreArchs rows) c.archs_in.result c.in_ok-rows_of.ensures.reads
-          (λ machine scratch stands a. IfOk-weaker c.archs_in.result _ _ (λ made is. archs_found machine db stands rows a made.items is) c.archs_in.ensures.value)
+      looks_up = looks_up_rows (asks_of ask.Archs tt c.all_archs.ensures refl) (AreArchs rows) c.archs_in.result c.in_ok-rows_of.ensures.reads
+          (λ machine scratch stands a. IfOk-weaker c.archs_in.result _ _ (λ made is. archs_found machine db stands.archs rows a made.items is) c.archs_in.ensures.value)
           c.archs_in.ensures.err
-          (λ machine scratch sound stands a. archs_readable machine db stands rows a sound);
+          (λ machine scratch sound stands a. archs_readable machine db stands.archs rows a sound);
     }

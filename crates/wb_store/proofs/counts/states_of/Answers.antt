@@ -12,7 +12,7 @@ use Rattle.wb_store.proofs.counts.states_of.Goals as goal
 
 pub returns-in_err-rows : goal.returns-in_err-rows
 returns-in_err-rows g c = record {
-  looks_up = looks_up_nothing (asks_of (ask.StatesOf c.args.arch.now) c.states_of_arch.ensures (ap (λ v. v ∷ []) (text_bound c.params-to_sql.ensures c.as_str.ensures))) c.in_err-rows.ensures.reads
+  looks_up = looks_up_nothing (asks_of (ask.StatesOf c.args.arch.now) tt c.states_of_arch.ensures (ap (λ v. v ∷ []) (text_bound c.params-to_sql.ensures c.as_str.ensures))) c.in_err-rows.ensures.reads
       (handed_on c.from_residual.result c.from_residual.ensures.1);
 }
 
@@ -22,7 +22,7 @@ returns g c =
     let arch = c.args.arch.now in
     let rows = c.in_ok-rows.rows.items in
     record {
-      looks_up = looks_up_rows (asks_of (ask.StatesOf arch) c.states_of_arch.ensures (ap (λ v. v ∷ []) (text_bound c.params-to_sql.ensures c.as_str.ensures))) (AreStates rows) c.states_in.result c.in_ok-rows.ensures.reads
+      looks_up = looks_up_rows (asks_of (ask.StatesOf arch) tt c.states_of_arch.ensures (ap (λ v. v ∷ []) (text_bound c.params-to_sql.ensures c.as_str.ensures))) (AreStates rows) c.states_in.result c.in_ok-rows.ensures.reads
           (λ machine scratch stands a. IfOk-weaker c.states_in.result _ _
           (λ made is. states_found (rows_of machine arch) made.items (subst (IsPermutation _) is (states_answer machine db stands rows arch a))) c.states_in.ensures.value)
           c.states_in.ensures.err

@@ -9,13 +9,13 @@ returns-in_err-counts g c = record {
       (λ machine told. tt) (λ at after good why. inl why) (faulted c.from_residual.result c.from_residual.ensures.1));
 }
 
-pub returns-in_err-check_scratch : goal.returns-in_err-check_scratch
-returns-in_err-check_scratch g c =
+pub returns-in_err-check_left : goal.returns-in_err-check_left
+returns-in_err-check_left g c =
     let rows = then_passed (none_yet g.S.Store c.args.conn.now) c.in_ok-counts.ensures.checks in
-    let r = c.from_residual-in_err-check_scratch.result in
+    let r = c.from_residual-in_err-check_left.result in
     record {
-      checks = checked r (then_failed rows c.in_err-check_scratch.ensures.checks
-          (λ machine told. tt) (λ at after good why. inr (good.1.0, why)) (faulted r c.from_residual-in_err-check_scratch.ensures.1));
+      checks = checked r (then_failed rows c.in_err-check_left.ensures.checks
+          (λ machine told. tt) (λ at after good why. inr (good.1.0, why)) (faulted r c.from_residual-in_err-check_left.ensures.1));
     }
 
 pub returns : goal.returns
@@ -23,5 +23,5 @@ returns g c =
     let rows = then_passed (none_yet g.S.Store c.args.conn.now) c.in_ok-counts.ensures.checks in
     record {
       checks = checked (Ok c.in_ok-counts.counts)
-          (all_passed (then_passed rows c.in_ok-check_scratch.ensures.checks) (λ db good. (good.0.1, good.1)) (λ machine told. told.0.1));
+          (all_passed (then_passed rows c.in_ok-check_left.ensures.checks) (λ db good. (good.0.1, good.1)) (λ machine told. told.0.1));
     }

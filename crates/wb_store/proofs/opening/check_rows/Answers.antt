@@ -1,29 +1,29 @@
 use Rattle.std.proofs.Common.{inl, inr, Ok, Err, refl}
 use Rattle.wb_store.proofs.CheckLemmas.{faulted}
-use Rattle.wb_store.proofs.OpeningLemmas.{all_passed, builders_tested, none_yet, records_tested, tested, then_failed, then_passed}
+use Rattle.wb_store.proofs.OpeningLemmas.{all_passed, archs_tested, builders_tested, counts_tested, none_yet, records_tested, then_failed, then_passed}
 use Rattle.wb_store.proofs.opening.check_rows.Goals as goal
 
 pub returns-in_err-counts : goal.returns-in_err-counts
 returns-in_err-counts g c = record {
-  checks = then_failed (none_yet g.S.Store c.args.conn.now) (tested (Err _) c.in_err-counts.ensures.tests c.in_err-counts.ensures.passes)
+  checks = then_failed (none_yet g.S.Store c.args.conn.now) (counts_tested c.args.format (Err _) c.in_err-counts.ensures.tests c.in_err-counts.ensures.passes)
       (λ machine told. tt) (λ at after good why. inl why) (faulted c.from_residual.result c.from_residual.ensures.1);
 }
 
 pub returns-in_err-archs : goal.returns-in_err-archs
 returns-in_err-archs g c =
-    let one = then_passed (none_yet g.S.Store c.args.conn.now) (tested (Ok _) c.in_ok-counts.ensures.tests c.in_ok-counts.ensures.passes) in
+    let one = then_passed (none_yet g.S.Store c.args.conn.now) (counts_tested c.args.format (Ok _) c.in_ok-counts.ensures.tests c.in_ok-counts.ensures.passes) in
     record {
-      checks = then_failed one (tested (Err _) c.in_err-archs.ensures.tests c.in_err-archs.ensures.passes)
+      checks = then_failed one (archs_tested c.args.format (Err _) c.in_err-archs.ensures.tests c.in_err-archs.ensures.passes)
           (λ machine told. tt) (λ at after good why. inr (inl (c.in_ok-counts.counts, good.1, why)))
           (faulted c.from_residual-in_err-archs.result c.from_residual-in_err-archs.ensures.1);
     }
 
 pub returns-in_err-builders : goal.returns-in_err-builders
 returns-in_err-builders g c =
-    let one = then_passed (none_yet g.S.Store c.args.conn.now) (tested (Ok _) c.in_ok-counts.ensures.tests c.in_ok-counts.ensures.passes) in
-    let two = then_passed one (tested (Ok _) c.in_ok-archs.ensures.tests c.in_ok-archs.ensures.passes) in
+    let one = then_passed (none_yet g.S.Store c.args.conn.now) (counts_tested c.args.format (Ok _) c.in_ok-counts.ensures.tests c.in_ok-counts.ensures.passes) in
+    let two = then_passed one (archs_tested c.args.format (Ok _) c.in_ok-archs.ensures.tests c.in_ok-archs.ensures.passes) in
     record {
-      checks = then_failed two (builders_tested c.deref.ensures.value (Err _) c.in_err-builders.ensures.tests c.in_err-builders.ensures.passes)
+      checks = then_failed two (builders_tested c.args.format c.deref.ensures.value (Err _) c.in_err-builders.ensures.tests c.in_err-builders.ensures.passes)
           (λ machine told. told.1)
           (λ at after good why. inr (inr (inl (c.in_ok-counts.counts, c.in_ok-archs.archs.items, good.0.1, good.1, why))))
           (faulted c.from_residual-in_err-builders.result c.from_residual-in_err-builders.ensures.1);
@@ -31,11 +31,11 @@ returns-in_err-builders g c =
 
 pub returns-in_err-check_records : goal.returns-in_err-check_records
 returns-in_err-check_records g c =
-    let one = then_passed (none_yet g.S.Store c.args.conn.now) (tested (Ok _) c.in_ok-counts.ensures.tests c.in_ok-counts.ensures.passes) in
-    let two = then_passed one (tested (Ok _) c.in_ok-archs.ensures.tests c.in_ok-archs.ensures.passes) in
-    let three = then_passed two (builders_tested c.deref.ensures.value (Ok _) c.in_ok-builders.ensures.tests c.in_ok-builders.ensures.passes) in
+    let one = then_passed (none_yet g.S.Store c.args.conn.now) (counts_tested c.args.format (Ok _) c.in_ok-counts.ensures.tests c.in_ok-counts.ensures.passes) in
+    let two = then_passed one (archs_tested c.args.format (Ok _) c.in_ok-archs.ensures.tests c.in_ok-archs.ensures.passes) in
+    let three = then_passed two (builders_tested c.args.format c.deref.ensures.value (Ok _) c.in_ok-builders.ensures.tests c.in_ok-builders.ensures.passes) in
     record {
-      checks = then_failed three (records_tested c.deref-2.ensures.value c.deref-3.ensures.value (Err _) c.in_err-check_records.ensures.tests c.in_err-check_records.ensures.passes)
+      checks = then_failed three (records_tested c.args.format c.deref-2.ensures.value c.deref-3.ensures.value (Err _) c.in_err-check_records.ensures.tests c.in_err-check_records.ensures.passes)
           (λ machine told. record { archs_are = told.0.1; builders_are = told.1; handed_is = told.0.0.1.0 })
           (λ at after good why.
           inr (inr (inr (c.in_ok-counts.counts, c.in_ok-archs.archs.items, c.in_ok-builders.builders.items, good.0.0.1, good.0.1, good.1, why))))
@@ -44,10 +44,10 @@ returns-in_err-check_records g c =
 
 pub returns : goal.returns
 returns g c =
-    let one = then_passed (none_yet g.S.Store c.args.conn.now) (tested (Ok _) c.in_ok-counts.ensures.tests c.in_ok-counts.ensures.passes) in
-    let two = then_passed one (tested (Ok _) c.in_ok-archs.ensures.tests c.in_ok-archs.ensures.passes) in
-    let three = then_passed two (builders_tested c.deref.ensures.value (Ok _) c.in_ok-builders.ensures.tests c.in_ok-builders.ensures.passes) in
-    let four = then_passed three (records_tested c.deref-2.ensures.value c.deref-3.ensures.value (Ok _) c.in_ok-check_records.ensures.tests c.in_ok-check_records.ensures.passes) in
+    let one = then_passed (none_yet g.S.Store c.args.conn.now) (counts_tested c.args.format (Ok _) c.in_ok-counts.ensures.tests c.in_ok-counts.ensures.passes) in
+    let two = then_passed one (archs_tested c.args.format (Ok _) c.in_ok-archs.ensures.tests c.in_ok-archs.ensures.passes) in
+    let three = then_passed two (builders_tested c.args.format c.deref.ensures.value (Ok _) c.in_ok-builders.ensures.tests c.in_ok-builders.ensures.passes) in
+    let four = then_passed three (records_tested c.args.format c.deref-2.ensures.value c.deref-3.ensures.value (Ok _) c.in_ok-check_records.ensures.tests c.in_ok-check_records.ensures.passes) in
     record {
       checks = all_passed four
           (λ db good. (

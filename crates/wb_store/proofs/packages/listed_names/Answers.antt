@@ -9,14 +9,14 @@ use Rattle.wb_store.proofs.ReadLemmas.{asks_of, handed_on}
 use Rattle.wb_store.proofs.packages.listed_names.Goals as goal
 
 pub returns-in_err-rows_of : goal.returns-in_err-rows_of
-returns-in_err-rows_of g c = record { looks_up = looks_up_nothing (asks_of ask.SourceNames c.source_names.ensures refl) c.in_err-rows_of.ensures.reads (handed_on c.from_residual.result c.from_residual.ensures.1) }
+returns-in_err-rows_of g c = record { looks_up = looks_up_nothing (asks_of ask.SourceNames tt c.source_names.ensures refl) c.in_err-rows_of.ensures.reads (handed_on c.from_residual.result c.from_residual.ensures.1) }
 
 pub returns : goal.returns
 returns g c =
     let db = (state g.S.Store c.args.conn.now).now in
     let rows = c.in_ok-rows_of.field-0.items in
     record {
-      looks_up = looks_up_rows (asks_of ask.SourceNames c.source_names.ensures refl) (AreNames rows) c.distinct_names_in.result c.in_ok-rows_of.ensures.reads
+      looks_up = looks_up_rows (asks_of ask.SourceNames tt c.source_names.ensures refl) (AreNames rows) c.distinct_names_in.result c.in_ok-rows_of.ensures.reads
           (λ machine scratch stands a. IfOk-weaker c.distinct_names_in.result _ _ (λ made is. names_found db stands rows a made.items is) c.distinct_names_in.ensures.value)
           c.distinct_names_in.ensures.err
           (λ machine scratch readable stands a. names_readable db stands rows a readable);

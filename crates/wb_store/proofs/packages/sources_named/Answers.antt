@@ -10,7 +10,7 @@ use Rattle.wb_store.proofs.packages.sources_named.Goals as goal
 
 pub returns-in_err-rows_of : goal.returns-in_err-rows_of
 returns-in_err-rows_of g c = record {
-  looks_up = looks_up_nothing (asks_of (ask.SourcesNamed c.args.name.now) c.sources_named.ensures (ap (λ v. v ∷ []) (text_bound c.params-to_sql.ensures c.as_str.ensures))) c.in_err-rows_of.ensures.reads
+  looks_up = looks_up_nothing (asks_of (ask.SourcesNamed c.args.name.now) tt c.sources_named.ensures (ap (λ v. v ∷ []) (text_bound c.params-to_sql.ensures c.as_str.ensures))) c.in_err-rows_of.ensures.reads
       (handed_on c.from_residual.result c.from_residual.ensures.1);
 }
 
@@ -19,7 +19,7 @@ returns g c =
     let db = (state g.S.Store c.args.conn.now).now in
     let rows = c.in_ok-rows_of.field-0.items in
     record {
-      looks_up = looks_up_rows (asks_of (ask.SourcesNamed c.args.name.now) c.sources_named.ensures (ap (λ v. v ∷ []) (text_bound c.params-to_sql.ensures c.as_str.ensures))) (AreSources rows) c.sources_in.result c.in_ok-rows_of.ensures.reads
+      looks_up = looks_up_rows (asks_of (ask.SourcesNamed c.args.name.now) tt c.sources_named.ensures (ap (λ v. v ∷ []) (text_bound c.params-to_sql.ensures c.as_str.ensures))) (AreSources rows) c.sources_in.result c.in_ok-rows_of.ensures.reads
           (λ machine scratch stands a. IfOk-weaker c.sources_in.result _ _ (λ made is. sources_found db stands rows c.args.name.now made.items a is) c.sources_in.ensures.value)
           c.sources_in.ensures.err
           (λ machine scratch readable stands a. sources_readable db stands rows readable c.args.name.now a);

@@ -10,7 +10,7 @@ pub returns : goal.returns
 returns g c =
     let db = (state g.S.Store c.args.conn.now).now in
     record {
-      looks_up = looks_up_all (asks_of (ask.QueueOf c.args.arch.now) c.queue.ensures (ap₂ (λ u v. u ∷ v ∷ []) (text_bound c.params-to_sql.ensures c.as_str.ensures) (number_bound c.params-to_sql-2.ensures (ap pos (c.from-waiting.ensures ∙ c.code.ensures.value))))) refl c.records.result c.records.ensures.reads
+      looks_up = looks_up_all (asks_of (ask.QueueOf c.args.arch.now) tt c.queue.ensures (ap₂ (λ u v. u ∷ v ∷ []) (text_bound c.params-to_sql.ensures c.as_str.ensures) (number_bound c.params-to_sql-2.ensures (ap pos (c.from-waiting.ensures ∙ c.code.ensures.value))))) refl c.records.result c.records.ensures.reads
           (λ machine scratch rows stands a sound. queue_found machine db stands rows.items sound c.args.arch.now
           refl a)
           (λ machine scratch sound stands rows a. queue_readable machine db stands rows sound _ a);

@@ -10,7 +10,7 @@ pub returns : goal.returns
 returns g c =
     let db = (state g.S.Store c.args.conn.now).now in
     record {
-      looks_up = looks_up_all (asks_of (ask.RecordsOf c.args.arch.now) c.records_of_arch.ensures (ap (λ v. v ∷ []) (text_bound c.params-to_sql.ensures c.as_str.ensures))) refl c.records.result c.records.ensures.reads
+      looks_up = looks_up_all (asks_of (ask.RecordsOf c.args.arch.now) tt c.records_of_arch.ensures (ap (λ v. v ∷ []) (text_bound c.params-to_sql.ensures c.as_str.ensures))) refl c.records.result c.records.ensures.reads
           (λ machine scratch rows stands a. arch_found machine db stands rows.items c.args.arch.now refl a)
           (λ machine scratch sound stands rows a. arch_readable machine db stands rows sound _ a);
     }

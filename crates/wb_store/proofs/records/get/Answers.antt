@@ -8,7 +8,7 @@ use Rattle.wb_store.proofs.records.get.Goals as goal
 
 pub returns-in_err-rows : goal.returns-in_err-rows
 returns-in_err-rows g c = record {
-  looks_up = fails_to_look_up (asks_of (ask.RecordAt (c.args.arch.now, c.args.source.now)) c.record.ensures (ap₂ (λ u v. u ∷ v ∷ []) (text_bound c.params-to_sql.ensures c.as_str.ensures) (text_bound c.params-to_sql-2.ensures c.as_str-2.ensures))) refl c.in_err-rows.ensures.reads (handed_on c.from_residual.result c.from_residual.ensures.1)
+  looks_up = fails_to_look_up (asks_of (ask.RecordAt (c.args.arch.now, c.args.source.now)) tt c.record.ensures (ap₂ (λ u v. u ∷ v ∷ []) (text_bound c.params-to_sql.ensures c.as_str.ensures) (text_bound c.params-to_sql-2.ensures c.as_str-2.ensures))) refl c.in_err-rows.ensures.reads (handed_on c.from_residual.result c.from_residual.ensures.1)
       (λ machine scratch sound stands rows a. key_readable machine (state g.S.Store c.args.conn.now).now stands rows sound _ a);
 }
 
@@ -16,7 +16,7 @@ pub returns : goal.returns
 returns g c =
     let db = (state g.S.Store c.args.conn.now).now in
     record {
-      looks_up = looks_up (asks_of (ask.RecordAt (c.args.arch.now, c.args.source.now)) c.record.ensures (ap₂ (λ u v. u ∷ v ∷ []) (text_bound c.params-to_sql.ensures c.as_str.ensures) (text_bound c.params-to_sql-2.ensures c.as_str-2.ensures))) refl c.in_ok-rows.ensures.reads
+      looks_up = looks_up (asks_of (ask.RecordAt (c.args.arch.now, c.args.source.now)) tt c.record.ensures (ap₂ (λ u v. u ∷ v ∷ []) (text_bound c.params-to_sql.ensures c.as_str.ensures) (text_bound c.params-to_sql-2.ensures c.as_str-2.ensures))) refl c.in_ok-rows.ensures.reads
           (λ machine scratch stands a. c.current_in.ensures
           ∙ current_found machine db stands c.in_ok-rows.rows.items (c.args.arch.now, c.args.source.now)
           refl a);

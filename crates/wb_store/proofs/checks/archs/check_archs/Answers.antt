@@ -1,16 +1,16 @@
 use Rattle.std.proofs.Common.{refl}
 use Rattle.wb_store.specs.Queries as ask
 use Rattle.wb_store.proofs.CheckLemmas.{archs_pass, faulted, tests_nothing, tests_rows}
-use Rattle.wb_store.proofs.ReadLemmas.{asks_of}
+use Rattle.wb_store.proofs.ReadLemmas.{asks_in}
 use Rattle.wb_store.proofs.checks.archs.check_archs.Goals as goal
 
 pub returns-in_err-rows_of-clause-tests : goal.returns-in_err-rows_of-clause-tests
-returns-in_err-rows_of-clause-tests g c = tests_nothing (asks_of ask.Archs c.all_archs.ensures refl) c.in_err-rows_of.ensures.reads (faulted c.from_residual.result c.from_residual.ensures.1)
+returns-in_err-rows_of-clause-tests g c = tests_nothing (asks_in ask.Archs c.all_archs.ensures refl) c.in_err-rows_of.ensures.reads (faulted c.from_residual.result c.from_residual.ensures.1)
 
 pub returns-in_err-rows_of-clause-passes : goal.returns-in_err-rows_of-clause-passes
 returns-in_err-rows_of-clause-passes g c = archs_pass c.from_residual.result (returns-in_err-rows_of-clause-tests g c)
 
 pub returns : goal.returns
 returns g c =
-    let tests = tests_rows (asks_of ask.Archs c.all_archs.ensures refl) c.archs_in.result c.in_ok-rows_of.ensures.reads c.archs_in.ensures.value c.archs_in.ensures.err in
+    let tests = tests_rows (asks_in ask.Archs c.all_archs.ensures refl) c.archs_in.result c.in_ok-rows_of.ensures.reads c.archs_in.ensures.value c.archs_in.ensures.err in
     record { tests = tests; passes = archs_pass c.archs_in.result tests }

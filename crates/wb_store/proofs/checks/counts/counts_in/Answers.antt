@@ -5,5 +5,5 @@ use Rattle.wb_store.proofs.checks.counts.counts_in.Goals as goal
 
 pub returns-in_default-format_in-clause-err : goal.returns-in_default-format_in-clause-err
 returns-in_default-format_in-clause-err c =
-    no_format c.args.rows.now c.row-item.result c.row-item.is
+    no_format c.args.wanted c.args.rows.now c.row-item.result c.row-item.is
     (subst (λ found. IfNone found ((format : ℕ) → ¬ HasFormat format c.row-item.result)) c.in_default-format_in.is c.format_in.ensures.none)

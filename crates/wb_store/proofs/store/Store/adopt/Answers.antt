@@ -5,7 +5,7 @@ use Rattle.wb_store.proofs.store.Store.adopt.Goals as goal
 pub returns-in-Ok-clause-found : goal.returns-in-Ok-clause-found
 returns-in-Ok-clause-found g c = λ clean machine is.
     let prepares = c.in-Ok.ensures.prepares in
-    let consistent = found_consistent (state g.S.Store c.args.conn) is (λ schema. (prepares.good clean schema).0.0) in
+    let consistent = found_consistent (state g.S.Store c.args.conn) is (λ schema. (prepares.good clean schema).0.0) (λ schema. (prepares.good_first clean schema).0.0) in
     let found = prepares.found clean machine consistent is in
     record { consistent = consistent; counted = found.0; settled = found.1 }
 
@@ -32,3 +32,6 @@ returns-in-Ok-clause-newer g c = c.in-Ok.ensures.prepares.names.newer
 
 pub returns-in-Ok-clause-limit : goal.returns-in-Ok-clause-limit
 returns-in-Ok-clause-limit g c = c.in-Ok.ensures.prepares.limit
+
+pub returns-in-Ok-clause-good_first : goal.returns-in-Ok-clause-good_first
+returns-in-Ok-clause-good_first g c = λ clean first. let good = c.in-Ok.ensures.prepares.good_first clean first in (good.0.0, good.1)
