@@ -61,10 +61,52 @@ def version(value):
     return f"Version {{ text: {quoted(value)}, epoch: {int(epoch or 0)}, upstream_start: {start}, upstream_end: {end} }}"
 
 
+def record(state, of, priority="optional", section="devel", **others):
+    """A record of a version, with what is not named as `enter` leaves it."""
+    fields = {
+        "state": state,
+        "version": version(of),
+        "priority": text(priority),
+        "section": text(section),
+        "earlier": "false",
+        "number": "0",
+        "holder": "None",
+        "take": "None",
+        "waits": text(""),
+        "depends": some(text("")),
+        "note": text(""),
+        "message": text(""),
+        "build_priority": "0",
+    }
+    assert set(others) <= set(fields), others
+    fields.update(others)
+    return "Record { " + ", ".join(f"{name}: {value}" for name, value in fields.items()) + " }"
+
+
+def keyed(source, current):
+    return f"KeyedRecord {{ arch: {text('amd64')}, source: {text(source)}, current: {current} }}"
+
+
+def assignment(source, of, take):
+    build = f"version: {text(of)}, build: {text(of)}, number: 0, message: {text('')}, take: {take}"
+    return f"Assignment {{ arch: {text('amd64')}, source: {text(source)}, {build} }}"
+
+
+def done(accepted):
+    return ok(f"Done {{ accepted: {accepted} }}")
+
+
 MEMORY = "Err(Memory)"  # of a fault or a refusal
 ALLOC = "Err(AllocError)"
 
-# ---- lists and relations
+# ---- offices and lists
+
+BEGUN = "add-arch amd64 linux amd64\nadd-builder b1 amd64\n"
+ENTERED = BEGUN + "enter amd64 hello 1.0-1 optional devel\n"  # 3 accepted
+TAKEN = ENTERED + "enter amd64 zlib 1:1.2-1 required libs\ntake amd64 b1 zlib 1:1.2-1\n"  # 5 accepted, 1 handed
+HELD = {"holder": some(text("b1")), "take": some("1")}
+HELLO = record("NeedsBuild", "1.0-1")
+ZLIB = record("Building", "1:1.2-1", "required", "libs", **HELD)
 
 SOURCES = """Package: bash
 Version: 2.0-1
@@ -77,9 +119,18 @@ PACKAGES = """Package: bash
 Version: 2.0-1
 Architecture: amd64
 """
+BASH = record(
+    "Installed", "2.0-1", "required", "shells", earlier="true", depends=some(text("libx-dev (>= 2)"))
+)  # as a merge makes it
+INSTALLED = BEGUN + "merge 5 amd64=6\n"  # 3 accepted; the lists are the sixth and the seventh text
+NONE = ("", "", "")
 RELATIONS = "libx-dev (>= 2), foo [!amd64] | bar <!nocheck>, baz <stage1>,"
 REPORT = "hello 1.0-1 uninstallable libfoo missing\nzlib 1:1.2-1 installable\n"
 MANY = 40
+
+
+def on_office(name, call, office, texts, ample, refused=ALLOC, takes=True):
+    return Case(name, f"step.{call}", (office, *texts), ample, refused, takes)
 
 
 # ---- versions, texts and lists
@@ -144,7 +195,55 @@ RELATION_CASES = [
 ]
 
 
-# ---- lists and reports
+# ---- records and their moves
+
+
+def move(name, office, source, ample, brings="", refused=MEMORY, texts=()):
+    given = (office, source, name, brings, *texts)
+    return Case(f"move_{name.replace('-', '_')}", "states.move", given, ok(ample), refused)
+
+
+def zlib_in(state, **others):
+    """The record of zlib after its hold ended."""
+    return record(state, "1:1.2-1", "required", "libs", **others)
+
+
+INSTALLED_LISTS = ("", SOURCES, PACKAGES)
+STATES = [
+    Case("record_copy", "states.copy", (TAKEN, "zlib"), ok(ZLIB), ALLOC),
+    Case("build_of_a_version", "states.build_text", (TAKEN, "zlib"), ok(text("1:1.2-1")), ALLOC),
+    Case(
+        "build_of_a_rebuild",
+        "states.build_text",
+        (INSTALLED + "rebuild amd64 bash 2.0-1 2 against libx2\n", "bash", "", "", *INSTALLED_LISTS),
+        ok(text("2.0-1+b2")),
+        ALLOC,
+    ),
+    Case("words_copy", "states.words_copy", ("linux", "amd64"), ok(f"OsCpu {{ os: {text('linux')}, cpu: {text('amd64')} }}"), ALLOC),
+    move("take", ENTERED, "hello", record("Building", "1.0-1", holder=some(text("b1")), take=some("7")), "b1"),
+    move("built", TAKEN, "zlib", zlib_in("Built", **HELD)),
+    move("uploaded", TAKEN, "zlib", zlib_in("Uploaded", **HELD)),
+    move("waits", TAKEN, "zlib", zlib_in("DepWait", waits=text("libx-dev (>= 2), bar")), RELATIONS),
+    move("put-back", TAKEN, "zlib", zlib_in("NeedsBuild")),
+    move("attempted", TAKEN, "zlib", zlib_in("BuildAttempted", note=text("cc died")), "cc died"),
+    move("give-back", TAKEN, "zlib", zlib_in("NeedsBuild")),
+    move("dep-wait", ENTERED, "hello", record("DepWait", "1.0-1", waits=text("libx-dev (>= 2), bar")), RELATIONS),
+    move("fail", ENTERED, "hello", record("Failed", "1.0-1", note=text("needs a newer compiler")), "needs a newer compiler"),
+    move("not-for-us", ENTERED, "hello", record("NotForUs", "1.0-1", note=text("needs x86")), "needs x86"),
+    move(
+        "rebuild",
+        INSTALLED,
+        "bash",
+        BASH.replace("state: Installed", "state: NeedsBuild")
+        .replace("number: 0", "number: 7")
+        .replace(f"message: {text('')}", f"message: {text('against libx2')}"),
+        "against libx2",
+        texts=("", *INSTALLED_LISTS[1:]),
+    ),
+    Case("move_from_another_state", "states.move", (ENTERED, "hello", "built"), "Err(WrongState { state: NeedsBuild })", MEMORY, takes=False),
+]
+
+# ---- lists, reports and the records after them
 
 SOURCE_ROW = ok(
     f"SourceRow {{ seq: 1, name: {text('bash')}, version: {version('2.0-1')}, architecture: {text('any')}, extra: false, "
@@ -160,7 +259,13 @@ BINARY_ROW = ok(
 LISTED = f"Listed {{ version: {version('2.0-1')}, priority: {text('required')}, section: {text('shells')}, depends: {some(text('libx-dev (>= 2)'))} }}"
 BUILT = f"Built {{ version: {version('2.0-1')}, number: 2 }}"
 LISTING = ok(quoted(f"bash({some(LISTED)}, {some(BUILT)})"))
-LISTS = (SOURCES, REBUILT)
+LISTS = ("", "bash", SOURCES, REBUILT)
+AFTER_REBUILT = BASH.replace("number: 0", "number: 2")
+OLDER = BEGUN + "enter amd64 bash 1.0-1 optional devel\nnext amd64 b1\n"
+WAITING = BEGUN + "enter amd64 bash 2.0-1 required shells\ndep-wait amd64 bash 2.0-1 bash (>= 2)\n"
+NEWER = BASH.replace("state: Installed", "state: NeedsBuild").replace("earlier: true", "earlier: false")
+UNINSTALLABLE = record("BdUninstallable", "1.0-1", note=text("libfoo missing"))
+REPORTED = (ENTERED, "hello", REPORT)
 MERGES = [
     Case("source_row", "merge.source_row", LISTS, SOURCE_ROW, MEMORY),
     Case("binary_row", "merge.binary_row", LISTS, BINARY_ROW, MEMORY),
@@ -168,10 +273,116 @@ MERGES = [
     Case("sources", "merge.sources", LISTS, LISTING, "Memory"),
     Case("listing_of_sources", "merge.listing_from", LISTS, LISTING, "Memory"),
     Case("listing_names", "merge.listing_names", LISTS, ok(listed([text("bash")])), ALLOC),
-    Case("report", "merge.report", (REPORT,), ok(listed([text("hello"), text("zlib")])), "Memory"),
-    Case("report_of_blank_lines", "merge.report", (" \t\n\n",), "Ok([])", "Memory", takes=False),
-    Case("report_sources", "merge.report_sources", (REPORT,), ok(listed([text("hello"), text("zlib")])), ALLOC),
-    Case("report_with_a_line_twice", "merge.report", (REPORT + "hello 2.0 installable",), "BadReport { line: 3 }", "Memory"),
+    Case("after_of_a_new_source", "merge.after", (BEGUN, *LISTS[1:]), ok(some(AFTER_REBUILT)), MEMORY),
+    Case("after_of_a_newer_version", "merge.after", (OLDER, "bash", SOURCES, ""), ok(some(NEWER)), MEMORY),
+    Case(
+        "after_of_waits",
+        "merge.after",
+        (WAITING, "bash", SOURCES, PACKAGES.replace("amd64", "all")),
+        ok(some(NEWER)),
+        MEMORY,
+    ),
+    Case("after_of_no_source", "merge.after", (ENTERED, "hello", SOURCES, ""), "Ok(None)", MEMORY, takes=False),
+    Case("after_found_of_a_new_source", "merge.after_found", (BEGUN, *LISTS[1:]), ok(some(AFTER_REBUILT)), MEMORY),
+    Case("after_found_of_a_newer_version", "merge.after_found", (OLDER, "bash", SOURCES, ""), ok(some(NEWER)), MEMORY),
+    Case("report", "merge.report", REPORTED, ok(listed([text("hello"), text("zlib")])), "Memory"),
+    Case("report_of_blank_lines", "merge.report", (*REPORTED[:2], " \t\n\n"), "Ok([])", "Memory", takes=False),
+    Case("report_sources", "merge.report_sources", REPORTED, ok(listed([text("hello"), text("zlib")])), ALLOC),
+    Case("report_with_a_line_twice", "merge.report", (*REPORTED[:2], REPORT + "hello 2.0 installable"), "BadReport { line: 3 }", "Memory"),
+    Case("after_report", "merge.after_report", REPORTED, ok(UNINSTALLABLE), MEMORY),
+    Case("changed_by_report", "merge.changed_by_report", REPORTED, ok(some(UNINSTALLABLE)), MEMORY),
+    Case("unchanged_by_report", "merge.changed_by_report", (ENTERED, "hello", "hello 2.0 uninstallable x"), "Ok(None)", MEMORY),
+]
+
+
+# ---- the step of a command, and the parts of an office
+
+
+def step(line, ample, office=TAKEN, texts=()):
+    """A command on an office."""
+    name = "step_" + line.split(" ", 1)[0].replace("-", "_")
+    return Case(name, "step.carry_out", (office, line, *texts), ample, f"{MEMORY} then {{again}}")
+
+
+def check(line, texts=(), takes=True):
+    """The texts of a command."""
+    name = "check_" + line.split(" ", 1)[0].replace("-", "_")
+    return Case(name, "step.check_texts", ("", line, *texts), "Ok(())", MEMORY, takes)
+
+
+MERGED = f"Merged {{ counts: MergeCounts {{ added: 1, changed: 0, kept: 0, removed: 2 }} }}"
+PART = f"PartReply {{ arch: {text('amd64')}, end: {MERGED} }}"
+LINES = {
+    "merge": ("merge 2 amd64=3", (SOURCES, PACKAGES)),
+    "report": ("report amd64 2", (REPORT,)),
+}
+STEPS = [
+    step("add-arch arm64 linux arm64", done(6)),
+    step("add-builder b2 amd64", done(6)),
+    step("enter amd64 aa 1.0 optional devel", done(6)),
+    step("next amd64 b1", ok(f"Job {{ accepted: 6, assignment: {assignment('hello', '1.0-1', 2)} }}")),
+    Case(
+        "step_next_again",
+        "step.carry_out",
+        (TAKEN, "next amd64 b1 --after 0"),
+        ok(f"Again {{ accepted: 5, assignment: {assignment('zlib', '1:1.2-1', 1)} }}"),
+        f"{MEMORY} then {{again}}",
+    ),
+    step("take amd64 b1 hello 1.0-1", ok(f"Job {{ accepted: 6, assignment: {assignment('hello', '1.0-1', 2)} }}")),
+    step("built 1", done(6)),
+    step("uploaded 1", done(6)),
+    step(f"waits 1 {RELATIONS}", done(6)),
+    step("put-back 1", done(6)),
+    step("attempted 1 cc died", done(6)),
+    step("give-back amd64 zlib 1:1.2-1", done(6)),
+    step(f"dep-wait amd64 hello 1.0-1 {RELATIONS}", done(6)),
+    step("fail amd64 hello 1.0-1 needs a newer compiler", done(6)),
+    step("not-for-us amd64 hello 1.0-1 needs x86", done(6)),
+    step("rebuild amd64 bash 2.0-1 1 against libx2", done(4), INSTALLED, ("", "", "", SOURCES, PACKAGES)),
+    step("build-priority amd64 hello 1.0-1 5", done(6)),
+    step(LINES["merge"][0], ok(f"Merged {{ accepted: 6, parts: {items([PART])} }}"), texts=LINES["merge"][1]),
+    step(LINES["report"][0], ok("Reported { accepted: 6, changed: 1 }"), texts=LINES["report"][1]),
+    check("add-arch arm64 linux arm64", takes=False),
+    check("enter amd64 aa 1.0 optional devel"),
+    check("take amd64 b1 hello 1.0-1"),
+    check(f"waits 1 {RELATIONS}"),
+    check(f"dep-wait amd64 hello 1.0-1 {RELATIONS}"),
+    check("give-back amd64 zlib 1:1.2-1"),
+    check("fail amd64 hello 1.0-1 needs a newer compiler"),
+    check("rebuild amd64 bash 2.0-1 1 against libx2"),
+    check("build-priority amd64 hello 1.0-1 5"),
+    check(LINES["merge"][0], LINES["merge"][1], takes=False),
+    check(LINES["report"][0], LINES["report"][1]),
+    on_office("archs_of", "archs_of", TAKEN, ("b1",), ok(listed([text("amd64")]))),
+    on_office("is_builder", "is_builder", TAKEN, ("b1",), "Ok(true)"),
+    on_office("has_builder", "has_builder", TAKEN, ("b1", "amd64"), "Ok(true)"),
+    on_office("get", "get", TAKEN, ("amd64", "zlib"), ok(some(ZLIB))),
+    on_office("has_record", "has_record", TAKEN, ("amd64", "hello"), "Ok(true)"),
+    on_office("all_of", "all_of", TAKEN, ("amd64",), ok(listed([keyed("hello", HELLO), keyed("zlib", ZLIB)]))),
+    on_office("held_by", "held_by", TAKEN, ("b1",), ok(listed([f"(({text('amd64')}, {text('zlib')}), {ZLIB})"]))),
+    on_office("copy_records", "copy_records", TAKEN, (), ok(listed([text("hello"), text("zlib")])), "AllocError"),
+    on_office("row_get", "row_get", TAKEN, ("hello",), ok(some(HELLO))),
+    on_office("row_names", "row_names", TAKEN, (), ok(listed([text("hello"), text("zlib")]))),
+]
+
+
+def change(name, texts, ample, before, office=TAKEN):
+    """A change, with what is there after it and what was there before."""
+    return on_office(name, name, office, texts, f"(Ok(()), {ample})", f"({ALLOC}, {before}) then {{again}}")
+
+
+BOTH = listed([text("hello"), text("zlib")])
+THREE = listed([text("bash"), text("hello"), text("zlib")])
+# A map of the kit asks for no memory where a node has room: for its first key it does, and where a node is full, which has 15 keys.
+FULL = ["hello", *(f"lib{number:02}" for number in range(14))]
+FULL_OFFICE = BEGUN + "".join(f"enter amd64 {name} 1.0-1 optional devel\n" for name in FULL)
+ROWS = [
+    change("put", ("amd64", "bash"), listed(map(text, ["bash", *FULL])), listed(map(text, FULL)), FULL_OFFICE),
+    change("remove", ("amd64", "hello"), listed([text("zlib")]), BOTH),
+    change("add_arch", ("arm64",), "true", "false", ""),
+    change("add_builder", ("b1", "arm64"), listed([text("arm64")]), "[]", "add-arch arm64 linux arm64\n"),
+    change("row_put", ("bash",), f"Ok({THREE})", f"Ok({BOTH})"),
+    change("row_remove", ("hello",), f"Ok({listed([text('zlib')])})", f"Ok({BOTH})"),
 ]
 
 # ---- streams, words and the interface
@@ -222,6 +433,28 @@ WORDS = [
     Case("start_of_help", "words.start_of", ("help",), "Help", "OutOfMemory", takes=False),
 ]
 
+REPLY = '{"accepted":4,"arch":"amd64","build":"1.0-1","message":"","number":0,"ok":"next","source":"hello","take":1,"version":"1.0-1"}'
+MERGE_REPLY = '{"accepted":6,"ok":"merge","parts":[{"added":1,"arch":"amd64","changed":0,"kept":0,"removed":2}]}'
+WRONG_STATE = '{"code":6,"refused":"WrongState","state":"Building"}'
+OTHER_VERSION = '{"code":5,"have":"1.0-1","refused":"OtherVersion"}'
+NO_MEMORY = '{"code":20,"refused":"Memory"}'
+ROW = (
+    '{"arch":"amd64","build":"1.0-1","build_priority":0,"earlier":false,"holder":null,"message":"","note":"","number":0,"priority":"optional",'
+    '"section":"devel","source":"hello","state":"Needs-Build","take":null,"version":"1.0-1","waits":""}'
+)
+COUNTS = (
+    '"BD-Uninstallable":0,"Build-Attempted":0,"Building":0,"Built":0,"Dep-Wait":0,"Failed":0,"Installed":0,"Needs-Build":1,"Not-For-Us":0,"Uploaded":0'
+)
+ANSWERS = {
+    "queue": '{"arch":"amd64","queue":[{"build":"1.0-1","source":"hello"}]}',
+    "by-state": f'{{"arch":"amd64","records":[{ROW}],"state":"Needs-Build"}}',
+    "item": ROW,
+    "mine": f'{{"builder":"b1","records":[{ROW}]}}',
+    "depends": '{"arch":"amd64","depends":null,"source":"hello"}',
+    "summary": f'{{"accepted":3,"arch":"amd64","counts":{{{COUNTS}}}}}',
+}
+
+
 def post(path, body):
     return f"POST {path} HTTP/1.1\r\nHost: localhost\r\nContent-Length: {len(body)}\r\n\r\n{body}"
 
@@ -231,29 +464,35 @@ def asked(kind, value):
 
 
 API = [
+    Case("reply", "api.reply_json", (ENTERED, "next amd64 b1", "next"), ok(quoted(REPLY)), ALLOC),
+    Case("reply_to_a_merge", "api.reply_json", (TAKEN, "merge 3 amd64=4", "merge", SOURCES, PACKAGES), ok(quoted(MERGE_REPLY)), ALLOC),
+    Case("refusal", "api.refusal_json", (TAKEN, "take amd64 b1 zlib 1:1.2-1"), quoted(WRONG_STATE), quoted(NO_MEMORY)),
+    Case("refusal_of_a_version", "api.refusal_json", (ENTERED, "take amd64 b1 hello 2.0"), quoted(OTHER_VERSION), quoted(NO_MEMORY)),
+    Case("refusal_or_fault", "api.try_refusal_json", (ENTERED, "take amd64 b1 hello 2.0"), ok(quoted(OTHER_VERSION)), ALLOC),
+    *(Case(f"answer_to_{kind.replace('-', '_')}", "api.query_json", (ENTERED, kind), ok(quoted(said)), ALLOC) for kind, said in ANSWERS.items()),
     Case("routes", "api.routes", ("",), '"routes"', "OutOfMemory"),
     Case(
         "request_of_next",
         "api.read_request",
-        (post("/v1/next", '{"arch":"amd64","builder":"b1"}'),),
+        ("", post("/v1/next", '{"arch":"amd64","builder":"b1"}')),
         asked("Command", f"Next(Next {{ arch: {text('amd64')}, builder: {text('b1')}, after: None }})"),
         "Memory",
     ),
     Case(
         "request_of_attempted",
         "api.read_request",
-        (post("/v1/attempted", '{"take":1,"reason":"a \\u0074est"}'),),
+        ("", post("/v1/attempted", '{"take":1,"reason":"a \\u0074est"}')),
         asked("Command", f"Attempted(Attempted {{ take_number: 1, reason: {text('a test')} }})"),
         "Memory",
     ),
     Case(
         "request_of_item",
         "api.read_request",
-        ("GET /v1/item/amd64/g%2b%2b HTTP/1.1\r\n\r\n",),
+        ("", "GET /v1/item/amd64/g%2b%2b HTTP/1.1\r\n\r\n"),
         asked("Query", f"Item {{ arch: {text('amd64')}, source: {text('g++')} }}"),
         "Memory",
     ),
-    Case("request_of_no_route", "api.read_request", ("GET /v1/frob HTTP/1.1\r\n\r\n",), "Refused(NoRoute)", "Memory", takes=False),
+    Case("request_of_no_route", "api.read_request", ("", "GET /v1/frob HTTP/1.1\r\n\r\n"), "Refused(NoRoute)", "Memory", takes=False),
 ]
 
-CASES = [*TEXTS, *CONTROL, *RELATION_CASES, *MERGES, *STREAMS, *WORDS, *API]
+CASES = [*TEXTS, *CONTROL, *RELATION_CASES, *STATES, *MERGES, *STEPS, *ROWS, *STREAMS, *WORDS, *API]

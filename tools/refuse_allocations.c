@@ -8,6 +8,8 @@
 
        2^62 + K bytes       begin: refuse the K-th request from here on, and none where K is 0 (K below 2^61)
        2^62 + 2^61 bytes    stop: refuse none from here on, and write the line `asked N refused R` to the file descriptor REFUSE_TO
+       2^62 + 2^61 + 1      pause: count and refuse none from here on; what stands for a device is then given its memory
+       2^62 + 2^61 + 2      go on: count and refuse as before the pause
 
    N is how many requests there were between the two, and R is 1 where one of them was refused, and else 0. Each call of malloc, calloc,
    realloc, aligned_alloc, memalign or posix_memalign for more than no bytes is a request, also a realloc to a smaller size; a call of free
@@ -27,8 +29,11 @@ extern void *__libc_memalign(size_t alignment, size_t size);
 
 static const size_t BEGIN = (size_t)1 << 62;
 static const size_t STOP = ((size_t)1 << 62) + ((size_t)1 << 61);
+static const size_t PAUSE = ((size_t)1 << 62) + ((size_t)1 << 61) + 1;
+static const size_t GO_ON = ((size_t)1 << 62) + ((size_t)1 << 61) + 2;
 
 static int counts = 0;
+static int pauses = 0;
 static size_t asked = 0;
 static size_t refuse_at = 0;
 static int refused = 0;
@@ -48,15 +53,20 @@ static int is_refused(size_t size) {
         if (size == STOP) {
             counts = 0;
             report();
+        } else if (size == PAUSE) {
+            pauses = 1;
+        } else if (size == GO_ON) {
+            pauses = 0;
         } else if (size < STOP) {
             counts = 1;
+            pauses = 0;
             asked = 0;
             refused = 0;
             refuse_at = size - BEGIN;
         }
         return 1;
     }
-    if (!counts || size == 0)
+    if (!counts || pauses || size == 0)
         return 0;
     asked += 1;
     if (asked != refuse_at)

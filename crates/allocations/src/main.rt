@@ -15,7 +15,10 @@
 mod api;
 mod control;
 mod merges;
+mod office;
 mod relations;
+mod states;
+mod steps;
 mod streams;
 mod texts;
 mod turn;
@@ -62,7 +65,9 @@ fn answer(name: &str, turn: Turn<'_>) -> Result<String> {
         "text" => texts::answer(call, turn),
         "control" => control::answer(call, turn),
         "relations" => relations::answer(call, turn),
+        "states" => states::answer(call, turn),
         "merge" => merges::answer(call, turn),
+        "step" => steps::answer(call, turn),
         "streams" => streams::answer(call, turn),
         "words" => words::answer(call, turn),
         "api" => api::answer(call, turn),

@@ -1,4 +1,4 @@
-//! What the archive lists for amd64, and what a report says.
+//! What the archive lists for amd64, what a report says, and the record after it.
 
 mod found;
 mod listings;
@@ -10,8 +10,10 @@ use anyhow::Result;
 /// What the call answers.
 pub(crate) fn answer(call: &str, turn: Turn<'_>) -> Result<String> {
     match call {
-        "report" | "report_sources" => reports::answer(call, turn),
-        "source_row" | "binary_row" => found::answer(call, turn),
+        "report" | "report_sources" | "after_report" | "changed_by_report" => {
+            reports::answer(call, turn)
+        }
+        "source_row" | "binary_row" | "after_found" => found::answer(call, turn),
         _ => listings::answer(call, turn),
     }
 }

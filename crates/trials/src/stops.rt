@@ -22,7 +22,6 @@
 //! opening found; after the lives `cut N` for each power cut, with the count in a copy of the files that it handed back, or `cut none` if that could not be
 //! opened, and `left N`, how many cuts are left. What is not synced at the end of a life is lost.
 
-mod commands;
 pub(crate) mod disk;
 mod lists;
 mod lives;

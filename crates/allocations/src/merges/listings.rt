@@ -1,12 +1,15 @@
-//! What two lists say for amd64. The first text is a Sources list, and the second a Packages list.
+//! What two lists say for amd64. The first text has the lines of an office, the second names a source package of it on amd64, the third is a
+//! Sources list, and the fourth a Packages list.
 
+use crate::office::{begun, name};
 use crate::relations::amd64;
 use crate::turn::Turn;
 use anyhow::{Result, bail};
 use deb_relations::ArchWords;
+use deb_text::Text;
 use std::alloc::AllocError;
-use wb_merge::{Listing, Sources};
-use wb_states::Refusal;
+use wb_merge::{Listing, Sources, after};
+use wb_states::{Record, Refusal};
 
 /// What the call answers.
 pub(crate) fn answer(call: &str, turn: Turn<'_>) -> Result<String> {
@@ -16,13 +19,14 @@ pub(crate) fn answer(call: &str, turn: Turn<'_>) -> Result<String> {
         "listing" => Ok(read(turn, &arch)),
         "listing_from" => from_sources(turn, &arch),
         "listing_names" => Ok(names(turn, &listing_of(turn, &arch)?)),
+        "after" => after_merge(turn, &listing_of(turn, &arch)?),
         _ => bail!("no call of a merge is {call}"),
     }
 }
 
 /// The listing of the two lists.
 fn listing_of(turn: Turn<'_>, arch: &ArchWords) -> Result<Listing, Refusal> {
-    let (sources, packages) = (turn.text(0).as_bytes(), turn.text(1).as_bytes());
+    let (sources, packages) = (turn.text(2).as_bytes(), turn.text(3).as_bytes());
     Listing::read(turn.alloc, sources, packages, arch)
 }
 
@@ -55,21 +59,21 @@ fn read(turn: Turn<'_>, arch: &ArchWords) -> String {
 /// Reads a Sources list, and shows its listing beside the Packages list.
 fn sources(turn: Turn<'_>, arch: &ArchWords) -> Result<String> {
     turn.begin();
-    let found = Sources::read(turn.alloc, turn.text(0).as_bytes());
+    let found = Sources::read(turn.alloc, turn.text(2).as_bytes());
     turn.end();
     match found {
         Ok(sources) => Ok(show(
             turn,
-            Listing::from_sources(turn.alloc, &sources, turn.text(1).as_bytes(), arch),
+            Listing::from_sources(turn.alloc, &sources, turn.text(3).as_bytes(), arch),
         )),
         Err(refusal) => Ok(turn.said(&refusal)),
     }
 }
 
 fn from_sources(turn: Turn<'_>, arch: &ArchWords) -> Result<String> {
-    let sources = Sources::read(turn.alloc, turn.text(0).as_bytes())?;
+    let sources = Sources::read(turn.alloc, turn.text(2).as_bytes())?;
     turn.begin();
-    let found = Listing::from_sources(turn.alloc, &sources, turn.text(1).as_bytes(), arch);
+    let found = Listing::from_sources(turn.alloc, &sources, turn.text(3).as_bytes(), arch);
     turn.end();
     Ok(show(turn, found))
 }
@@ -77,6 +81,22 @@ fn from_sources(turn: Turn<'_>, arch: &ArchWords) -> Result<String> {
 fn names(turn: Turn<'_>, listing: &Listing) -> String {
     turn.begin();
     let found = listing.names();
+    turn.end();
+    turn.said(&found)
+}
+
+/// The record after a merge.
+fn after_merge(turn: Turn<'_>, listing: &Listing) -> Result<String> {
+    let office = begun(turn)?;
+    let source = name(turn, turn.text(1))?;
+    let arch_name = name(turn, "amd64")?;
+    let current = office.get(&arch_name, &source)?;
+    Ok(made(turn, current, &source, listing))
+}
+
+fn made(turn: Turn<'_>, current: Option<&Record>, source: &Text, listing: &Listing) -> String {
+    turn.begin();
+    let found = after(turn.alloc, current, source, listing);
     turn.end();
     turn.said(&found)
 }
