@@ -8,12 +8,12 @@ from dataclasses import dataclass, field
 from pathlib import Path
 from typing import Any
 
+from line_model import CODE_OF_STATE, row_of
 from office_model import ARCHS, BUILDERS, Kept, Listed, Office, Record, Refused, order
 from store_runs import copied_database
 
-# The states by their numbers in the file.
-STATES = "Needs-Build Building Built Uploaded Installed Dep-Wait BD-Uninstallable Failed Not-For-Us Build-Attempted".split()
-COLUMNS = "arch source state version priority section earlier number holder take waits depends note message build_priority".split()
+# The columns of a record in the file.
+COLUMNS = "arch source state version priority section earlier number holder take waits depends note message build_priority rank".split()
 STEPS = 50000  # how many orders of commands without an answer are tried at most
 
 # When what a package waits for is available, of the versions that lists of this trial have; waits for others are never met.
@@ -297,7 +297,6 @@ class Rows:
                     self.faults.append(f"PRAGMA {pragma} finds {met[:3]}")
             self.office_rows = database.execute("SELECT id, format, handed, accepted FROM office").fetchall()
             self.records = database.execute(f"SELECT {', '.join(COLUMNS)} FROM source_record ORDER BY arch, source").fetchall()
-            self.queues = database.execute("SELECT arch, source FROM source_record WHERE state = 0 ORDER BY arch, rank, source").fetchall()
             twice = database.execute("SELECT take FROM source_record WHERE take IS NOT NULL GROUP BY take HAVING count(*) > 1").fetchall()
             without = "SELECT source FROM source_record WHERE (holder IS NULL) <> (take IS NULL) OR (state IN (1, 2, 3)) = (take IS NULL)"
             pairs = set(database.execute("SELECT name, arch FROM builder").fetchall())
@@ -313,15 +312,11 @@ class Rows:
         found = []
         if (self.handed, self.accepted) != (office.handed, office.accepted):
             found.append(f"the file counts {self.handed} and {self.accepted}, and the model {office.handed} and {office.accepted}")
-        wanted = {(one.arch, one.source): row_of(one) for one in office.records.values()}
+        wanted = {(one.arch, one.source): tuple(row_of(one)) for one in office.records.values()}
         met = {row[:2]: row for row in self.records}
         for key in sorted(wanted.keys() | met.keys()):
             if wanted.get(key) != met.get(key):
                 found.append(f"{key}: the file has {met.get(key)}, and the model {wanted.get(key)}")
-        for arch in ARCHS:
-            queue = [source for of, source in self.queues if of == arch]
-            if queue != [one.source for one in sorted(office.of_state(arch, "Needs-Build"), key=Record.place)]:
-                found.append(f"the queue of {arch} has another order")
         return found
 
     def office(self) -> Soaked:
@@ -330,12 +325,7 @@ class Rows:
         office.handed, office.accepted = self.handed, self.accepted
         for row in self.records:
             fields = dict(zip(COLUMNS, row, strict=True))
-            fields["state"], fields["was_built"] = STATES[fields["state"]], bool(fields.pop("earlier"))
+            fields["state"], fields["was_built"] = CODE_OF_STATE[fields["state"]], bool(fields.pop("earlier"))
+            del fields["rank"]
             office.records[row[:2]] = Kept(**fields)
         return office
-
-
-def row_of(record: Record) -> tuple[Any, ...]:
-    values = {key: getattr(record, key) for key in COLUMNS}
-    values["state"], values["earlier"] = STATES.index(record.state), int(record.earlier)
-    return tuple(values[key] for key in COLUMNS)
