@@ -98,7 +98,7 @@ class Client:
             except (OSError, http.client.HTTPException):
                 time.sleep(0.01)
                 return status, None
-        if answer.getheader("Content-Length") is None:
+        if not answer.getheader("Content-Length"):
             return status, None  # the head broke off: http.client takes the end of the input for that of the head
         try:
             return status, json.loads(data)
