@@ -30,8 +30,8 @@ use Rattle.wb_store.specs.Checks.{AreBadCounts, HasGoodRowsIn, AreBadRecords, Ar
 use Rattle.wb_store.specs.Faults.{fault_of}
 use Rattle.wb_store.specs.Finds.{StaysAs}
 use Rattle.wb_store.specs.Formats.{IsNewer, IsOtherFault, ShowsFormat, TellsOther}
-use Rattle.wb_store.specs.Opening.{AreCountsOf, Checks, ComesLater, StandsIfFirst, FailsOnOffice, FailsOnRows, FailsOnRowsOf, PreparesOffice, IsNewerFault, LacksMemoryOrQuery, NamesFault, ShowsCounts}
-use Rattle.wb_store.specs.FirstOpening.{BringsOver, FailsOnReading}
+use Rattle.wb_store.specs.Opening.{AreCountsOf, Checks, ComesLater, StandsIfFirst, FailsOnOffice, FailsOnReading, FailsOnRows, FailsOnRowsOf, FailsToBring, PreparesOffice, IsNewerFault, LacksMemoryOrQuery, NamesFault, ShowsCounts}
+use Rattle.wb_store.specs.FirstOpening.{BringsOver}
 use Rattle.wb_store.specs.Preparing.{HasRoom, LeavesFound, LeavesPrepared, MakesEmptyOffice}
 use Rattle.wb_store.specs.Schemas.{number_of, table_of_records}
 use Rattle.wb_store.specs.Upgrading.{FailsToReadFirst, FailsToUpgrade, HasFirst, LeavesOrUpgrades}
@@ -237,6 +237,7 @@ module _ {S : Type 0} {g : Ghosts S} {old new : Held S} where
     good = h.good;
     good_first = λ clean first. absurd (first_no_office old.schema first office);
     refuses = λ clean same. tt;
+    refuses_first = λ clean first. tt;
     known = inr (inl office);
     names = record {
       newer = λ clean newer. let good = (h.good clean office).0.0 in never_newer Two (state g old).now office.office_is newer good.counts good.counts_held;
@@ -265,6 +266,7 @@ module _ {S : Type 0} {g : Ghosts S} {old new : Held S} where
     good = λ clean same. tt;
     good_first = λ clean first. tt;
     refuses = h.refuses;
+    refuses_first = λ clean first. absurd (first_no_office old.schema first office);
     known = tt;
     names = record {
       newer = λ clean newer.
@@ -313,6 +315,7 @@ module _ {S : Type 0} {g : Ghosts S} {old new : Held S} where
     good = λ clean office. tt;
     good_first = λ clean first. tt;
     refuses = λ clean office. absurd (others office);
+    refuses_first = λ clean first. absurd (no_first first);
     known = tt;
     names = record {
       newer = λ clean newer. (old, inl refl, newer_by newer (h.why clean));
@@ -397,6 +400,7 @@ module _ {S : Type 0} {g : Ghosts S} {old new : Held S} (none : LacksOffice old.
     good = λ clean office. no_office none office;
     good_first = λ clean first. absurd (first_no_lack old.schema first none);
     refuses = λ clean office. tt;
+    refuses_first = λ clean first. tt;
     known = inl none;
     names = record {
       newer = λ clean newer. absurd (lacks_format old.schema none newer.2.has);
@@ -435,6 +439,7 @@ module _ {S : Type 0} {g : Ghosts S} {old new : Held S} (none : LacksOffice old.
     good = λ clean office. tt;
     good_first = λ clean first. tt;
     refuses = λ clean office. no_office none office;
+    refuses_first = λ clean first. absurd (first_no_lack old.schema first none);
     known = tt;
     names = names_plain fault (λ clean is_open. plain_later g mid new fault (h.fails clean empty_office IsConsistent-empty_office (settled clean is_open)).1);
     crash = λ clean is_open some db may.
@@ -464,6 +469,7 @@ module _ {S : Type 0} {g : Ghosts S} {old new : Held S} (none : LacksOffice old.
     good = λ clean office. tt;
     good_first = λ clean first. tt;
     refuses = λ clean office. no_office none office;
+    refuses_first = λ clean first. absurd (first_no_lack old.schema first none);
     known = tt;
     names = names_plain fault (λ clean is_open. plain_by fault e Office is);
     crash = λ clean is_open some db may. made_or_left (makes.crash clean (room (state g old) none live is_open) db may);
@@ -510,6 +516,7 @@ module _ {S : Type 0} {g : Ghosts S} {old new : Held S} (first : HasFirstOffice 
     good = λ clean office. absurd (first_no_office old.schema first office);
     good_first = h.good;
     refuses = λ clean office. tt;
+    refuses_first = λ clean first. tt;
     known = inr (inr first);
     names = record {
       newer = λ clean newer. let good = (h.good clean first).0.0 in never_newer One (state g old).now first.tables.office_is.has newer good.counts good.counts_held;
@@ -541,6 +548,7 @@ module _ {S : Type 0} {g : Ghosts S} {old new : Held S} (first : HasFirstOffice 
     good = λ clean office. tt;
     good_first = λ clean first. tt;
     refuses = λ clean office. absurd (first_no_office old.schema first office);
+    refuses_first = h.refuses;
     known = tt;
     names = record {
       newer = λ clean newer. newer_by newer (h.refuses clean first);
@@ -562,14 +570,12 @@ module _ {S : Type 0} {g : Ghosts S} {old new : Held S} (first : HasFirstOffice 
       stays_first : {at : Held S} → StaysAs g old at → HasFirstOffice at.schema
       stays_first {at = at} stays = subst (λ (db : Database). HasFirstOffice db.schema) (sym (stays-now g old at stays)) first
 
-      newer_by : IsNewer (state g old).now → ComesLater g FailsOnReading old new fault ⊎ (HasGoodRowsIn One (state g old).now × ((machine : Machine) → HasFirst machine (state g old) → (at : Held S) × FailsToUpgrade g machine at fault))
-          → ComesLater g IsNewerFault old new fault
+      newer_by : IsNewer (state g old).now → FailsToBring g old new fault → ComesLater g IsNewerFault old new fault
       newer_by newer (inl why) = (why.0, why.1, newer_first (state g why.0) (state g new) fault (stays_first why.1) (subst IsNewer (sym (stays-now g old why.0 why.1)) newer) why.2)
       newer_by newer (inr (good, why)) = absurd (never_newer One (state g old).now first.tables.office_is.has newer good.counts good.counts_held)
 
       told_by : IsTrue (state g old).is_open → StandsIfFirst (state g old).now
-          → ComesLater g FailsOnReading old new fault ⊎ (HasGoodRowsIn One (state g old).now × ((machine : Machine) → HasFirst machine (state g old) → (at : Held S) × FailsToUpgrade g machine at fault))
-          → TellsFormat One (state g old).now fault
+          → FailsToBring g old new fault → TellsFormat One (state g old).now fault
       told_by is_open some (inl why) = subst (λ db. TellsFormat One db fault) (stays-now g old why.0 why.1) (told_first (state g why.0) (state g new) fault (stays_first why.1) why.2)
       told_by is_open some (inr (good, why)) =
           let stands = some first in

@@ -2,23 +2,18 @@
 use Rattle.std.specs.Prelude.{◌≡◌, ◌⊎◌, ⊤, false, map, Result, IfOk, IfErr, Vec}
 use Rattle.sqlite_trees.specs.declared.store.Store.{Ghosts}
 use Rattle.sqlite.specs.Held.{Held, state}
-use Rattle.sqlite.specs.State.{State, HasCleanDisk}
+use Rattle.sqlite.specs.State.{HasCleanDisk}
 use Rattle.wb_sql.specs.Upgrading.{HasFirstOffice}
 use Rattle.wb_states.specs.declared.counts.Counts.{Counts}
 use Rattle.wb_states.specs.declared.keyed.KeyedRecord.{KeyedRecord}
 use Rattle.wb_states.specs.declared.store_fault.StoreFault.{StoreFault}
 use Rattle.wb_states.specs.Lookups.{entry_of}
 use Rattle.wb_states.specs.Machine.{IsConsistent, Machine}
-use Rattle.wb_store.specs.Checks.{HasGoodRowsIn}
-use Rattle.wb_store.specs.Opening.{AreCountsOf, ChecksOver, ComesLater, FailsOnFirst, HasGoodRowsWith, HasNoScratchRows, LacksMemoryOrQuery}
+use Rattle.wb_store.specs.Opening.{AreCountsOf, ChecksOver, FailsOnReading, FailsToBring, HasGoodRowsWith, HasNoScratchRows, LacksMemoryOrQuery}
 use Rattle.wb_store.specs.Settled.{IsSettled}
 use Rattle.wb_store.specs.Stands.{StandsForFirst}
-use Rattle.wb_store.specs.Upgrading.{AreRecordsOf, FailsToReadFirst, FailsToUpgrade, HasFirst, LeavesOrUpgrades}
+use Rattle.wb_store.specs.Upgrading.{AreRecordsOf, FailsToUpgrade, HasFirst, LeavesOrUpgrades}
 use Rattle.wb_store.specs.declared.format.Format.TheVariants.{One}
-
--- why an office of the first schema is not read: the first of its tests that fails, or, after all of them, its records are not read
-abbrev pub FailsOnReading : State → State → StoreFault → Type 0
-FailsOnReading old new fault = FailsOnFirst old new fault ⊎ (HasGoodRowsIn One old.now × FailsToReadFirst old new fault)
 
 -- an office of the first schema is tested, and its records are read, with its counts
 abbrev pub ReadsOffice : {S X : Type 0} → Ghosts S → Held S → Held S → Result (Counts × Vec KeyedRecord X) StoreFault → Type 0
@@ -36,8 +31,7 @@ pub record BringsOver {S : Type 0} (g : Ghosts S) (old new : Held S) (result : R
   pub fails : HasCleanDisk (state g new) → (machine : Machine) → IsConsistent machine → HasFirst machine (state g old)
       → IfErr result (λ fault. LacksMemoryOrQuery g old new fault ⊎ ((at : Held S) × FailsToUpgrade g machine at fault))
   pub refuses : HasCleanDisk (state g new) → HasFirstOffice old.schema
-      → IfErr result (λ fault. ComesLater g FailsOnReading old new fault
-      ⊎ (HasGoodRowsIn One (state g old).now × ((machine : Machine) → HasFirst machine (state g old) → (at : Held S) × FailsToUpgrade g machine at fault)))
+      → IfErr result (FailsToBring g old new)
   pub crash : HasCleanDisk (state g new) → (machine : Machine) → HasFirst machine (state g old) → LeavesOrUpgrades machine (state g old) (state g new)
   pub good : HasCleanDisk (state g new) → HasFirstOffice old.schema → IfOk result (λ counts. HasGoodRowsWith One (state g old).now counts × HasNoScratchRows (state g old).now)
   pub idle : HasCleanDisk (state g new) → HasFirstOffice old.schema → (state g new).in_transaction ≡ false

@@ -29,7 +29,7 @@ use Rattle.wb_store.specs.Queries.{OfficeQuery, table_asked, table_of}
 use Rattle.wb_store.specs.Schemas.{query_of_records}
 use Rattle.wb_store.specs.Scratch.{has_rows}
 use Rattle.wb_store.specs.Settled.{IsBackAt, IsFirstOffice, IsSettled}
-use Rattle.wb_store.specs.Upgrading.{FailsToUpgrade, HasFirst}
+use Rattle.wb_store.specs.Upgrading.{FailsToReadFirst, FailsToUpgrade, HasFirst}
 use Rattle.wb_store.specs.Stands.{AreEmptied, HasIn, StandsFor, StandsForFirst, StandsIn}
 use Rattle.wb_store.specs.Finds.{StaysAs}
 use Rattle.wb_store.specs.Preparing.{FailsToMake, IsBlank, IsFoundAt, LeavesFound, LeavesPrepared}
@@ -177,6 +177,17 @@ FailsOnFirst old new fault =
 abbrev pub ChecksFirst : {S : Type 0} → Ghosts S → Held S → Held S → Result Counts StoreFault → Type 0
 ChecksFirst g = ChecksOver g HasFirstOffice StandsForFirst (λ _. ⊤) (λ db counts. HasGoodRowsWith One db counts × HasNoScratchRows db) AreCountsOf FailsOnFirst
 
+-- why an office of the first schema is not read: the first of its tests that fails, or, after all of them, its records are not read
+abbrev pub FailsOnReading : State → State → StoreFault → Type 0
+FailsOnReading old new fault = FailsOnFirst old new fault ⊎ (HasGoodRowsIn One old.now × FailsToReadFirst old new fault)
+
+-- why an office of the first schema is not brought over: it is not read, after tests that left it as it was; or all its rows are good, and a statement or the
+-- commit of the transaction fails
+abbrev pub FailsToBring : {S : Type 0} → Ghosts S → Held S → Held S → StoreFault → Type 0
+FailsToBring {S} g old new fault =
+    ComesLater g FailsOnReading old new fault
+    ⊎ (HasGoodRowsIn One (state g old).now × ((machine : Machine) → HasFirst machine (state g old) → (at : Held S) × FailsToUpgrade g machine at fault))
+
 -- the tests of a whole office: if they succeed, its rows are good, no row is left of a merge or an upgrade, and nothing is changed; a settled connection passes them, and
 -- stays settled, or goes back to its state if memory ran out or a query failed; and no fault is given but that of a test
 pub record Checks {S : Type 0} (g : Ghosts S) (old new : Held S) (result : Result Counts StoreFault) : Type 0 where
@@ -229,8 +240,9 @@ pub record NamesFault {S : Type 0} (g : Ghosts S) (old new : Held S) (result : R
 
 -- an office is found, or made in a database that lacks it, each perhaps beside tables of others: if that succeeds, it is settled at its state, with its
 -- counts; whatever it answers, a crash leaves that state; it fails only if it could not be made, or if memory ran out or a query failed; an office
--- that is found has good rows, or is refused by one of its tests; and whatever it answers over an open connection, a crash leaves what it could leave
--- before, or an empty office of a database that lacked one, no transaction is under way, and the limit of steps stays
+-- that is found, in either schema, has good rows, or is refused by one of its tests, before anything is written; and whatever it answers over an open
+-- connection, a crash leaves what it could leave before, or an empty office of a database that lacked one, or the same state in the second schema; no
+-- transaction is under way, and the limit of steps stays
 pub record PreparesOffice {S : Type 0} (g : Ghosts S) (old new : Held S) (result : Result Counts StoreFault) : Type 0 where
   pub was_clean : HasCleanDisk (state g new) → HasCleanDisk (state g old)
   pub found : HasCleanDisk (state g new) → (machine : Machine) → IsConsistent machine → IsFoundAt machine (state g old)
@@ -243,6 +255,7 @@ pub record PreparesOffice {S : Type 0} (g : Ghosts S) (old new : Held S) (result
   pub good_first : HasCleanDisk (state g new) → HasFirstOffice old.schema
       → IfOk result (λ counts. HasGoodRowsWith One (state g old).now counts × HasNoScratchRows (state g old).now)
   pub refuses : HasCleanDisk (state g new) → HasOffice old.schema → IfErr result (ComesLater g FailsOnOffice old new)
+  pub refuses_first : HasCleanDisk (state g new) → HasFirstOffice old.schema → IfErr result (FailsToBring g old new)
   pub known : IfOk result (λ counts. LacksOffice old.schema ⊎ (HasOffice old.schema ⊎ HasFirstOffice old.schema))
   pub names : NamesFault g old new result
   pub crash : HasCleanDisk (state g new) → IsTrue (state g old).is_open → StandsIfFirst (state g old).now → LeavesPrepared (state g old) (state g new)
