@@ -4,6 +4,7 @@
 mod asked;
 mod connection;
 mod files;
+mod first_page;
 mod journal;
 mod lists;
 mod memory;

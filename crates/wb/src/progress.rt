@@ -22,6 +22,13 @@ pub(crate) fn report_opening(rt: &HostRuntime, file: &str) {
     }
 }
 
+/// Says that the file of the records is of format 1, whose opening takes long, so that nobody takes it for a hang.
+pub(crate) fn report_first_format(rt: &impl Eprint, file: &str) {
+    let _ = eprintln!(rt;
+        "wb: {file} is of format 1: opening it takes about a minute for 10,000 records, and twelve for 35,000"
+    );
+}
+
 /// Says that this list or report is being read, if it is long, and answers how many bytes it has then.
 pub(crate) fn size_of_long(rt: &(impl Files + Eprint), name: &str) -> Option<u64> {
     report_file(rt, "reading", name, SLOW_LIST)

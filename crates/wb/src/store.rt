@@ -3,29 +3,21 @@
 ghost use Rattle.sqlite.specs.Held.{IsNew};
 
 use crate::files::{connect, connect_to_ask, names_no_file, refuse};
-use crate::progress::report_opening;
+use crate::first_page::FirstPage;
+use crate::progress::{report_first_format, report_opening};
 use crate::{Work, act, answer, said};
 use sqlite::{Connection, File, FileStore};
 use std::alloc::AllocError;
 use std::fs::{self, OpenOptions, TryLockError};
-use std::io::{self, ErrorKind, Read};
+use std::io::{self, ErrorKind};
 use std::os::unix::fs::OpenOptionsExt;
 use wb_daemon::status;
 use wb_office::Office;
-use wb_sql::lacks_office;
+use wb_sql::{has_first_office_tables, lacks_office};
 use wb_states::StoreFault;
 
 /// How many bytes the log of a file has if it holds no commit: those of its header.
 const EMPTY_LOG: u64 = 41;
-
-/// The first bytes of a database, by the format of SQLite's files.
-const MAGIC: &[u8] = b"SQLite format 3\0";
-
-/// Where the header of a database says how many bytes at the end of each page are left to others.
-const RESERVED_AT: usize = 20;
-
-/// How many of these bytes a checksum takes.
-const SUM_SIZE: u8 = 8;
 
 /// Why the lock on the file of an office is not taken.
 enum LockRefusal {
@@ -69,14 +61,18 @@ fn open_locked(rt: &HostRuntime, file: &str, work: Work<'_>) -> u8 {
         Ok(true) => return refuse_lost(rt, file),
         Err(AllocError) => return refuse_fault(rt, file, StoreFault::Memory),
     }
+    let page = FirstPage::read(rt, file);
     report_opening(rt, file);
+    if page.is_of_first_format {
+        report_first_format(rt, file);
+    }
     let asked = match work {
         Work::Ask { words } => ask_file(rt, file, words),
         _ => None,
     };
     match asked {
         Some(status) => status,
-        None => keep_file(rt, file, work),
+        None => keep_file(rt, file, page, work),
     }
 }
 
@@ -96,11 +92,11 @@ fn ask_file(rt: &HostRuntime, file: &str, words: &[&str]) -> Option<u8> {
     }
 }
 
-/// Has the office over the records in the file, which is locked, do its work, and keeps them in it.
-fn keep_file(rt: &HostRuntime, file: &str, work: Work<'_>) -> u8 {
+/// Has the office over the records in the file, which is locked and has this first page, do its work, and keeps them in it.
+fn keep_file(rt: &HostRuntime, file: &str, page: FirstPage, work: Work<'_>) -> u8 {
     let found = Found {
         was_empty: size_of(rt, file) == 0,
-        is_of_others: lacks_sums(rt, file),
+        is_of_others: page.lacks_sums,
     };
     match connect(rt, file) {
         Ok(conn) => keep_in(rt, file, found, conn, work),
@@ -117,7 +113,8 @@ struct Found {
     is_of_others: bool,
 }
 
-/// Has the office in a database do its work. It begins there if the database has none.
+/// Has the office in a database do its work. It begins there if the database has none, and one of format 1 is brought over
+/// into format 2, which is reported on standard error.
 fn keep_in(
     rt: &HostRuntime,
     file: &str,
@@ -131,10 +128,14 @@ fn keep_in(
     if is_new && found.is_of_others {
         return refuse_other(rt, file);
     }
+    let is_of_first_format = has_first_office_tables(conn.schema());
     match Office::adopt(rt.alloc(), conn) {
         Ok(mut office) => {
             if is_new {
                 report_new(rt, file, found.was_empty);
+            }
+            if is_of_first_format {
+                report_upgraded(rt, file, found.is_of_others);
             }
             let status = act(rt, &mut office, work);
             close(rt, file, office);
@@ -160,36 +161,20 @@ fn report_new(rt: &HostRuntime, file: &str, was_empty: bool) {
     };
 }
 
+/// Says that the office in the file was brought over into format 2, and whether another program made the file.
+fn report_upgraded(rt: &HostRuntime, file: &str, is_of_others: bool) {
+    let _ = eprintln!(rt; "wb: {file} was brought over from format 1 into format 2");
+    if is_of_others {
+        let _ = eprintln!(rt;
+            "wb: another program made {file}: its pages have no checksums and get none, so a byte that a disk changes may stay unseen"
+        );
+    }
+}
+
 /// Whether the file is not there, or is empty, while its log holds commits.
 fn is_lost_beside_its_log(rt: &HostRuntime, file: &str) -> Result<bool, AllocError> {
     let log = format!(in rt.alloc(); "{file}-wal")?;
     Ok(size_of(rt, file) == 0 && EMPTY_LOG < size_of(rt, log.as_str()))
-}
-
-/// Whether the file is a database whose pages have no room for checksums. It is read before it is opened as a database,
-/// since the end of a later read would let go of the locks on it. What is no regular file is not read: a pipe would be
-/// waited for.
-fn lacks_sums(rt: &HostRuntime, file: &str) -> bool {
-    if !is_regular(rt, file) {
-        return false;
-    }
-    let mut header = [0u8; RESERVED_AT + 1];
-    match fs::File::open(rt, file) {
-        Ok(mut data) => {
-            data.read_exact(&mut header).is_ok()
-                && header.starts_with(MAGIC)
-                && header[RESERVED_AT] != SUM_SIZE
-        }
-        Err(_) => false,
-    }
-}
-
-/// Whether the file is there and is no folder, pipe or device.
-fn is_regular(rt: &HostRuntime, name: &str) -> bool {
-    match fs::metadata(rt, name) {
-        Ok(found) => found.is_file(),
-        Err(_) => false,
-    }
 }
 
 /// Whether the name is that of a link.
