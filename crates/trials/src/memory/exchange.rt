@@ -2,7 +2,7 @@
 
 use crate::memory::Call;
 use crate::memory::disk::images_of;
-use crate::memory::office::{KeptOffice, opened, opened_again};
+use crate::memory::office::{KeptOffice, open_after, opened};
 use crate::memory::refusing::{begin, stop};
 use crate::requests::word_of;
 use crate::stops::disk::Images;
@@ -42,14 +42,7 @@ fn serve_twice<W: Write>(
     output: &mut W,
 ) -> Result<()> {
     let first = serve_once(alloc, routes, &mut office, request, Some(refused), output);
-    if office.closed() {
-        let files = office.surrender();
-        first?;
-        office = opened_again(alloc, files, output)?;
-    } else if let Err(error) = first {
-        let _files = office.surrender();
-        return Err(error);
-    }
+    let mut office = open_after(alloc, office, first, output)?;
     let again = serve_once(alloc, routes, &mut office, request, None, output);
     let _files = office.surrender();
     again

@@ -41,14 +41,25 @@ fn office_in(alloc: Global, files: Files<Kept>) -> Result<KeptOffice> {
     }
 }
 
-/// The office that the files of a closed one hold, after a line `closed`.
-pub(crate) fn opened_again<W: Write>(
+/// The office after a call, of which this was shown: the one that its files hold, after a line `closed`, if the call closed
+/// it. It is given up if what became of the call could not be shown.
+pub(crate) fn open_after<W: Write>(
     alloc: Global,
-    files: Files<Kept>,
+    office: KeptOffice,
+    shown: Result<()>,
     output: &mut W,
 ) -> Result<KeptOffice> {
-    writeln!(output, "closed")?;
-    office_in(alloc, files)
+    if office.closed() {
+        let files = office.surrender();
+        shown?;
+        writeln!(output, "closed")?;
+        return office_in(alloc, files);
+    }
+    if let Err(error) = shown {
+        let _files = office.surrender();
+        return Err(error);
+    }
+    Ok(office)
 }
 
 /// What files with this content hold after the command that a line asks for, which is accepted.
@@ -93,14 +104,7 @@ fn apply_twice<W: Write>(
     output: &mut W,
 ) -> Result<()> {
     let first = apply_once(alloc, &mut office, given, Some(refused), output);
-    if office.closed() {
-        let files = office.surrender();
-        first?;
-        office = opened_again(alloc, files, output)?;
-    } else if let Err(error) = first {
-        let _files = office.surrender();
-        return Err(error);
-    }
+    let mut office = open_after(alloc, office, first, output)?;
     let again = apply_again(alloc, &mut office, given, query, output);
     let _files = office.surrender();
     again
@@ -156,14 +160,7 @@ fn ask_twice<W: Write>(
     output: &mut W,
 ) -> Result<()> {
     let first = ask_once(alloc, &mut office, query, Some(refused), output);
-    if office.closed() {
-        let files = office.surrender();
-        first?;
-        office = opened_again(alloc, files, output)?;
-    } else if let Err(error) = first {
-        let _files = office.surrender();
-        return Err(error);
-    }
+    let mut office = open_after(alloc, office, first, output)?;
     let again = ask_once(alloc, &mut office, query, None, output);
     let _files = office.surrender();
     again
