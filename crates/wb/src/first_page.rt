@@ -16,8 +16,10 @@ const RESERVED_AT: usize = 20;
 /// How many of these bytes a checksum takes.
 const SUM_SIZE: u8 = 8;
 
-/// How the statement begins by which the first page of an office lists its records in format 1, and in format 2.
+/// How the statement goes on that made the table of the records, in format 1.
 const FIRST_RECORDS: &[u8] = b"TABLE source_state(";
+
+/// The same in format 2.
 const RECORDS: &[u8] = b"TABLE source_record(";
 
 /// What the first page of a file says of the database in it.

@@ -58,7 +58,9 @@ pub(crate) fn stages_of<'a>(alloc: Global, line: &'a str) -> Result<(Vec<Stage<'
             Some("close") => Work::Close,
             Some("keep") => return Ok((stages, End::Kept)),
             Some("unopened") => return Ok((stages, End::Unopened)),
-            Some(_) => bail!("a stage begins with run, session, open or close, and after the last stand keep or unopened"),
+            Some(_) => bail!(
+                "a stage begins with run, session, open or close, and after the last stand keep or unopened"
+            ),
         };
         stages.push(stage_of(work, &mut words)?)?;
     }
