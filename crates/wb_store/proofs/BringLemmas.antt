@@ -72,10 +72,10 @@ module _ {S X : Type 0} {g : Ghosts S} {old : Held S} (idle : (state g old).in_t
         brought = λ clean machine sound first. tt;
         fails = λ clean machine sound first.
             let before = upgrades.was_clean clean in
-            inr (mid, upgrades.err clean machine (first_stays before machine first) (reads.told before first.office.stands.has machine first.office.stands).1);
+            inr (mid, reads.same before first.office.stands.has, upgrades.err clean machine (first_stays before machine first) (reads.told before first.office.stands.has machine first.office.stands).1);
         refuses = λ clean first.
             let before = upgrades.was_clean clean in
-            inr ((reads.good before first).0.0, λ machine has. (mid, upgrades.err clean machine (first_stays before machine has) (reads.told before has.office.stands.has machine has.office.stands).1));
+            inr ((reads.good before first).0.0, λ machine has. (mid, reads.same before first, upgrades.err clean machine (first_stays before machine has) (reads.told before has.office.stands.has machine has.office.stands).1));
         crash = λ clean machine first db may.
             let before = upgrades.was_clean clean in
             elim (upgrades.crash clean machine (first_stays before machine first) (reads.told before first.office.stands.has machine first.office.stands).1 db may) [

@@ -186,7 +186,7 @@ told_first at new fault first (inl (inr (inr (inr (inr (none, (counts, archs, bu
 told_first at new fault first (inr (good, why)) = plain_tells One at.now fault (plain_reading fault why)
 
 plain_upgrade : {S : Type 0} (g : Ghosts S) (machine : Machine) (at : Held S) (fault : StoreFault) → FailsToUpgrade g machine at fault → IsPlainFault fault
-plain_upgrade g machine at fault (after, inl failed) = plain_by fault failed.3 failed.4 failed.8
+plain_upgrade g machine at fault (after, inl failed) = plain_by fault failed.3 failed.4 failed.9
 plain_upgrade g machine at fault (after, inr (moved, (e, cause, is))) = plain_by fault e Office is
 
 below_two : (format : ℕ) → (format ≤ 2) × (format ≢ 2) → format < 2
@@ -580,7 +580,7 @@ module _ {S : Type 0} {g : Ghosts S} {old new : Held S} (first : HasFirstOffice 
       told_by is_open some (inr (good, why)) =
           let stands = some first in
           let upgrade = why stands.0 (record { is_open = is_open; office = stands.1 }) in
-          plain_tells One (state g old).now fault (plain_upgrade g stands.0 upgrade.0 fault upgrade.1)
+          plain_tells One (state g old).now fault (plain_upgrade g stands.0 upgrade.0 fault upgrade.2)
 
       told : HasCleanDisk (state g new) → IsTrue (state g old).is_open → StandsIfFirst (state g old).now → TellsFormat One (state g old).now fault
       told clean is_open some = told_by is_open some (h.refuses clean first)

@@ -1,5 +1,5 @@
 -- The steps by which an office of the first schema is brought over into the second.
-use Rattle.std.proofs.Common.{◌≡◌, inl, ℕ, true, List, [], ◌∷◌, Result, Ok, Err, IfErr, OnOk, refl, sym, ap, subst, ◌∙◌, arith, IsTrue}
+use Rattle.std.proofs.Common.{◌≡◌, inl, inr, ℕ, true, List, [], ◌∷◌, Result, Ok, Err, IfErr, OnOk, refl, sym, ap, subst, ◌∙◌, arith, IsTrue}
 use Rattle.std.specs.FinMap as finite
 use Rattle.std.specs.List.{list_all}
 use Rattle.sqlite_trees.specs.declared.store.Store.{Ghosts}
@@ -40,9 +40,9 @@ use Rattle.wb_store.specs.Calls.{Changes}
 use Rattle.wb_store.specs.Faults.{answer_on}
 use Rattle.wb_store.specs.Stands.{HoldsRows, StandsFor, arch_rows, builder_rows, office_row, office_row_in}
 use Rattle.wb_store.specs.Settled.{IsFirstOffice}
-use Rattle.wb_store.specs.Upgrading.{FailsToMove, IsBetween, IsInside, IsMoved, Moves, with_records, without_records}
+use Rattle.wb_store.specs.Upgrading.{FailsToMove, IsBetween, IsInside, IsMoved, IsUpgrading, Moves, with_records, without_records}
 use Rattle.wb_store.specs.Writes as write
-use Rattle.wb_store.specs.Writes.{OfficeWrite}
+use Rattle.wb_store.specs.Writes.{IsTextOfWrite, OfficeWrite, table_written, written_by}
 use Rattle.wb_store.specs.declared.format.Format.TheVariants.{One}
 use Rattle.wb_store.proofs.ChangeRowLemmas.{office_typed, typed_at}
 use Rattle.wb_store.proofs.MapLemmas.{all_inserted, inserted}
@@ -64,7 +64,7 @@ module _ {S : Type 0} {g : Ghosts S} {Before Middle After : Database → Type 0}
     ok = λ clean inside. follows_on r (λ before. one.ok (two.was_clean clean) inside before) (λ first. two.ok clean (within first));
     err = λ clean inside before.
         let first = one.ok (two.was_clean clean) inside before in
-        if_err r (λ fault failed. (failed.0, failed.1, failed.2, failed.3, failed.4, failed.5, failed.6 ∙ one.limit, failed.7, failed.8)) (two.err clean (within first) first.reached);
+        if_err r (λ fault failed. (failed.0, failed.1, failed.2, failed.3, failed.4, failed.5, failed.6 ∙ one.limit, failed.7, failed.8, failed.9)) (two.err clean (within first) first.reached);
     survives = λ clean inside before.
         let first = one.ok (two.was_clean clean) inside before in
         survives_then (state g old) (state g mid) (state g new) (λ _. ⊥) (λ _. ⊥) (λ _. ⊥) (λ clean db none. none) (λ clean db none. none)
@@ -133,20 +133,20 @@ ok_on : {A : Type 0} (P : Type 0) (table : named.Table) (r : Result A Error) →
 ok_on P table (Ok x) h = h
 ok_on P table (Err e) h = tt
 
-err_on : {S A : Type 0} (g : Ghosts S) (sql : List ℕ) (params : Row) (old new : Held S) (table : named.Table) → IsTrue (state g old).in_transaction → (r : Result A Error)
+err_on : {S A : Type 0} (g : Ghosts S) (sql : List ℕ) (params : Row) (old new : Held S) (table : named.Table) → IsUpgrading (state g old).now.schema sql params table → IsTrue (state g old).in_transaction → (r : Result A Error)
     → IfErr r (λ e. Executes sql params (state g old) (state g new) (Err e) × IsKeptOrUndone (state g old) (state g new)) → IfErr (answer_on r table) (FailsToMove g old new)
-err_on g sql params old new table inside (Ok x) h = tt
-err_on g sql params old new table inside (Err e) h = (old, sql, params, e, table, inside, refl, h.0, refl)
+err_on g sql params old new table names inside (Ok x) h = tt
+err_on g sql params old new table names inside (Err e) h = (old, sql, params, e, table, inside, refl, names, h.0, refl)
 
 module _ {S A : Type 0} {g : Ghosts S} {sql : List ℕ} {params : Row} {old new : Held S} {r : Result A Error} {answer : Result A StoreFault} {Before After : Database → Type 0} where
   -- what a statement that writes makes of the database
-  pub statement_moves : (table : named.Table) (Done : State → State → Type 0) → (Before (state g old).now → IsWriting old.schema sql)
+  pub statement_moves : (table : named.Table) → IsUpgrading (state g old).now.schema sql params table → (Done : State → State → Type 0) → (Before (state g old).now → IsWriting old.schema sql)
       → (Before (state g old).now → Done (state g old) (state g new) → IsMoved After (state g old) (state g new))
       → RunsStatement g sql params old new r → (HasCleanDisk (state g new) → OnOk r (Done (state g old) (state g new))) → answer ≡ answer_on r table → Moves g Before After old new answer
-  statement_moves table Done writes makes ran ok is =
+  statement_moves table names Done writes makes ran ok is =
       subst (λ (t : Result A StoreFault). Moves g Before After old new t) (sym is) (record {
         ok = λ clean inside. ok_on _ table r (on_ok r (λ done before. makes before done) (ok clean));
-        err = λ clean inside before. err_on g sql params old new table inside.inside r (ran.err clean inside.inside);
+        err = λ clean inside before. err_on g sql params old new table names inside.inside r (ran.err clean inside.inside);
         survives = λ clean inside before. survives_weaker (state g old) (state g new) _ _ (λ clean db none. none (writes before)) ran.survives;
         was_clean = was_clean (state g old) (state g new) ran.survives;
         limit = ran.survives.limit;
@@ -154,12 +154,12 @@ module _ {S A : Type 0} {g : Ghosts S} {sql : List ℕ} {params : Row} {old new 
 
 -- a change of a state moves a database that stands for it
 pub changes_move : {S A : Type 0} {g : Ghosts S} {write : OfficeWrite} {Allows : Machine → Type 0} {after : Machine → Machine} {old new : Held S} {r : Result A StoreFault} (machine : Machine) → Allows machine
-    → Changes g write Allows after old new r → Moves g (StandsFor machine) (StandsFor (after machine)) old new r
-changes_move {g = g} {old = old} {new = new} {r = r} machine allows changes = record {
+    → ((schema : Schema) (sql : List ℕ) → IsTextOfWrite write sql → IsUpgrading schema sql (written_by write) (table_written write)) → Changes g write Allows after old new r → Moves g (StandsFor machine) (StandsFor (after machine)) old new r
+changes_move {g = g} {old = old} {new = new} {r = r} machine allows names changes = record {
   ok = λ clean inside. on_ok r (λ becomes stands.
       let made = becomes machine stands allows in
       record { reached = made.stands; shown = made.shown; marks = made.marks }) (changes.ok clean);
-  err = λ clean inside stands. if_err r (λ fault failed. (old, failed.sql, _, failed.error, _, inside.inside, refl, failed.failed, failed.fault_is)) (changes.err clean inside.inside);
+  err = λ clean inside stands. if_err r (λ fault failed. (old, failed.sql, _, failed.error, _, inside.inside, refl, names (state g old).now.schema failed.sql failed.text, failed.failed, failed.fault_is)) (changes.err clean inside.inside);
   survives = λ clean inside stands. survives_weaker (state g old) (state g new) _ _ (λ clean db none. none stands.has) changes.survives;
   was_clean = was_clean (state g old) (state g new) changes.survives;
   limit = changes.survives.limit;
@@ -214,7 +214,7 @@ module _ {S : Type 0} (g : Ghosts S) (old new : Held S) (machine : Machine) wher
 
       fails_on : (r : Result A Error) → IfErr r (FailsAt g old new) → IfErr (answer_on r on.SourceRecord) (FailsToMove g old new)
       fails_on (Ok x) h = tt
-      fails_on (Err e) h = (h.0, h.1, [], e, on.SourceRecord, h.2, h.3, h.5, refl)
+      fails_on (Err e) h = (h.0, h.1, [], e, on.SourceRecord, h.2, h.3, inl (h.4, refl, refl), h.5, refl)
 
 -- ---- the records of the first schema are removed
 
@@ -252,7 +252,7 @@ pub states_moved : {S A : Type 0} {g : Ghosts S} {old new : Held S} {r : Result 
     → params ≡ [] → RunsStatement g sql params old new r → (HasCleanDisk (state g new) → OnOk r (Deletes sql params (state g old) (state g new))) → answer ≡ answer_on r on.SourceState
     → Moves g (IsBetween machine counts IsStored) (IsBetween machine counts (λ rows. rows ≡ [])) old new answer
 states_moved {g = g} {old = old} {new = new} {sql = sql} {params = params} machine counts text none =
-    statement_moves on.SourceState (Deletes sql params)
+    statement_moves on.SourceState (inr (inl (text, none, refl))) (Deletes sql params)
     (λ was. deletes_writes old.schema sql (table_in old.schema source_state) [] (text old.schema (tree_named old.schema source_state.name) was.old.has (states_quiet old.schema was.has was.old)))
     (λ was does. states_cleared machine counts sql (state g old) (state g new) text was (subst (λ p. Deletes sql p (state g old) (state g new)) none does))
 
@@ -292,7 +292,7 @@ pub format_moved : {S A : Type 0} {g : Ghosts S} {old new : Held S} {r : Result 
     → params ≡ [] → RunsStatement g sql params old new r → (HasCleanDisk (state g new) → OnOk r (Updates sql params (state g old) (state g new))) → answer ≡ answer_on r on.Office
     → Moves g (IsBetween machine (office_row_in One machine) (λ rows. rows ≡ [])) (StandsFor (without_records machine)) old new answer
 format_moved {g = g} {old = old} {new = new} {sql = sql} {params = params} machine text none =
-    statement_moves on.Office (Updates sql params)
+    statement_moves on.Office (inr (inr (inl (text, none, refl)))) (Updates sql params)
     (λ was. updates_writes old.schema sql (table_in old.schema office) [] second_format (text old.schema (tree_named old.schema office.name) was.has.office_is (office_quiet old.schema was.has)))
     (λ was does. format_set machine sql (state g old) (state g new) text was (subst (λ p. Updates sql p (state g old) (state g new)) none does))
 
@@ -307,6 +307,11 @@ pub all_records : (machine : Machine) → with_records (without_records machine)
 all_records machine =
     with_inserted (without_records machine) (finite.entries machine.records)
     ∙ ap (λ records. record machine { records = records }) (all_inserted pair_cmp_total pair_cmp-same machine.records)
+
+-- a record is put by a statement of an upgrade
+puts_record : (entry : Entry) (schema : Schema) (sql : List ℕ) → IsTextOfWrite (write.PutsRecord entry) sql
+    → IsUpgrading schema sql (written_by (write.PutsRecord entry)) (table_written (write.PutsRecord entry))
+puts_record entry schema sql text = inr (inr (inr (entry, text, refl, refl)))
 
 -- what is known while these records are left
 pub record IsOnWay {S : Type 0} (g : Ghosts S) (machine : Machine) (all left : List Entry) (old now : Held S) : Type 0 where
@@ -327,14 +332,14 @@ module _ {S : Type 0} {g : Ghosts S} {machine : Machine} {all left : List Entry}
     one_put changes = record {
       so_far = record way.so_far { records = finite.insert way.so_far.records entry.0 entry.1 };
       whole = ap (with_records way.so_far) (sym first) ∙ way.whole;
-      moves = λ last r moves. way.moves last r (moves_then (changes_move way.so_far tt changes) moves);
+      moves = λ last r moves. way.moves last r (moves_then (changes_move way.so_far tt (puts_record entry) changes) moves);
     }
 
     -- one is not
     pub not_put : {A : Type 0} {fault : StoreFault} {r : Result (Unit {0}) StoreFault}
         → Changes {A = A} g (write.PutsRecord entry) (λ _. ⊤) (λ machine. record machine { records = finite.insert machine.records entry.0 entry.1 }) now new (Err fault) → r ≡ Err fault
         → Moves g (StandsFor machine) (StandsFor (with_records machine all)) old new r
-    not_put {r = r} changes is = way.moves new r (moves_failed (changes_move way.so_far tt changes) is)
+    not_put {r = r} changes is = way.moves new r (moves_failed (changes_move way.so_far tt (puts_record entry) changes) is)
 
   -- none is left
   pub all_put : left ≡ [] → Moves g (StandsFor machine) (StandsFor (with_records machine all)) old now (Ok (tt {0}))

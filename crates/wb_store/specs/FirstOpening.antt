@@ -9,6 +9,7 @@ use Rattle.wb_states.specs.declared.keyed.KeyedRecord.{KeyedRecord}
 use Rattle.wb_states.specs.declared.store_fault.StoreFault.{StoreFault}
 use Rattle.wb_states.specs.Lookups.{entry_of}
 use Rattle.wb_states.specs.Machine.{IsConsistent, Machine}
+use Rattle.wb_store.specs.Finds.{StaysAs}
 use Rattle.wb_store.specs.Opening.{AreCountsOf, ChecksOver, FailsOnReading, FailsToBring, HasGoodRowsWith, HasNoScratchRows, LacksMemoryOrQuery}
 use Rattle.wb_store.specs.Settled.{IsSettled}
 use Rattle.wb_store.specs.Stands.{StandsForFirst}
@@ -29,7 +30,7 @@ pub record BringsOver {S : Type 0} (g : Ghosts S) (old new : Held S) (result : R
   pub brought : HasCleanDisk (state g new) → (machine : Machine) → IsConsistent machine → HasFirst machine (state g old)
       → IfOk result (λ counts. AreCountsOf machine counts × IsSettled machine (state g new))
   pub fails : HasCleanDisk (state g new) → (machine : Machine) → IsConsistent machine → HasFirst machine (state g old)
-      → IfErr result (λ fault. LacksMemoryOrQuery g old new fault ⊎ ((at : Held S) × FailsToUpgrade g machine at fault))
+      → IfErr result (λ fault. LacksMemoryOrQuery g old new fault ⊎ ((at : Held S) × StaysAs g old at × FailsToUpgrade g machine at fault))
   pub refuses : HasCleanDisk (state g new) → HasFirstOffice old.schema
       → IfErr result (FailsToBring g old new)
   pub crash : HasCleanDisk (state g new) → (machine : Machine) → HasFirst machine (state g old) → LeavesOrUpgrades machine (state g old) (state g new)

@@ -186,7 +186,7 @@ FailsOnReading old new fault = FailsOnFirst old new fault ⊎ (HasGoodRowsIn One
 abbrev pub FailsToBring : {S : Type 0} → Ghosts S → Held S → Held S → StoreFault → Type 0
 FailsToBring {S} g old new fault =
     ComesLater g FailsOnReading old new fault
-    ⊎ (HasGoodRowsIn One (state g old).now × ((machine : Machine) → HasFirst machine (state g old) → (at : Held S) × FailsToUpgrade g machine at fault))
+    ⊎ (HasGoodRowsIn One (state g old).now × ((machine : Machine) → HasFirst machine (state g old) → (at : Held S) × StaysAs g old at × FailsToUpgrade g machine at fault))
 
 -- the tests of a whole office: if they succeed, its rows are good, no row is left of a merge or an upgrade, and nothing is changed; a settled connection passes them, and
 -- stays settled, or goes back to its state if memory ran out or a query failed; and no fault is given but that of a test
@@ -216,7 +216,7 @@ LacksAfter {S} g old new fault = (at : Held S) × ((old ≡ at) ⊎ IsMadeAt g o
 
 -- an office of the first schema is not brought over
 abbrev pub IsFaultOfUpgrade : {S : Type 0} → Ghosts S → Machine → Held S → StoreFault → Type 0
-IsFaultOfUpgrade {S} g machine old fault = HasFirst machine (state g old) × ((at : Held S) × FailsToUpgrade g machine at fault)
+IsFaultOfUpgrade {S} g machine old fault = HasFirst machine (state g old) × ((at : Held S) × StaysAs g old at × FailsToUpgrade g machine at fault)
 
 -- a database that has the tables of the first schema stands for a state
 abbrev pub StandsIfFirst : Database → Type 0

@@ -7,9 +7,12 @@ use Rattle.sqlite.specs.declared.error.Error.{Error}
 use Rattle.sqlite.specs.Effect.{Database}
 use Rattle.sqlite.specs.Held.{Held, state}
 use Rattle.sqlite.specs.Order.{Row}
+use Rattle.sqlite.specs.Schema.{Schema}
 use Rattle.sqlite.specs.State.{State, Executes, HasCleanDisk, IsUnchanged, Shows, Survives}
 use Rattle.sqlite.specs.Tree.{Trees}
-use Rattle.wb_sql.specs.Among.{HasOffice, HasStates, rows_in}
+use Rattle.wb_sql.specs.Among.{DeletesAmong, HasOffice, HasStates, UpdatesAmong, rows_in}
+use Rattle.wb_sql.specs.FirstSchema.{second_format}
+use Rattle.wb_sql.specs.Making.{IsMaking}
 use Rattle.wb_sql.specs.Tables.{office, source_record, source_state, scratch_source, scratch_binary}
 use Rattle.wb_sql.specs.Transactions.{FailsToCommit}
 use Rattle.wb_sql.specs.Upgrading.{HasFirstOffice}
@@ -20,7 +23,7 @@ use Rattle.wb_states.specs.declared.keyed.KeyedRecord.{KeyedRecord}
 use Rattle.wb_states.specs.declared.store_fault.StoreFault.{StoreFault}
 use Rattle.wb_states.specs.declared.store_fault.StoreFault.TheVariants.{Memory}
 use Rattle.wb_states.specs.declared.store_fault.Table.{Table}
-use Rattle.wb_states.specs.declared.store_fault.Table.TheVariants.{Office, SourceState}
+use Rattle.wb_states.specs.declared.store_fault.Table.TheVariants.{Office, SourceRecord, SourceState}
 use Rattle.wb_states.specs.Lookups.{entry_of}
 use Rattle.wb_states.specs.Machine.{IsConsistent, Machine}
 use Rattle.wb_states.specs.Queue.{Entry}
@@ -29,6 +32,8 @@ use Rattle.wb_store.specs.Faults.{fault_of, unfit}
 use Rattle.wb_store.specs.Queries as ask
 use Rattle.wb_store.specs.Settled.{IsFirstOffice, IsSettled, StandsForTrees, begun}
 use Rattle.wb_store.specs.Stands.{HasArchsOf, HasBuildersOf, StandsFor, StandsForFirst}
+use Rattle.wb_store.specs.Writes as write
+use Rattle.wb_store.specs.Writes.{IsTextOfWrite, table_written, written_by}
 
 -- these are the records of the state
 abbrev pub AreRecordsOf : Machine → List Entry → Type 0
@@ -89,11 +94,20 @@ pub record IsMoved (After : Database → Type 0) (old new : State) : Type 0 wher
   pub shown : Shows old new new.now old.committed true
   pub marks : new.marks ≡ old.marks
 
--- a statement failed in the transaction, under the limit of steps that there was, with an error of which this is the fault
+-- a statement of an upgrade over this schema, with its parameters and the table that its fault names: one that makes a table or an index of the second schema; the one
+-- that removes the records of the first; the one that sets the format; or one that puts a record
+abbrev pub IsUpgrading : Schema → List ℕ → Row → Table → Type 0
+IsUpgrading schema sql params table =
+    (IsMaking schema sql × (params ≡ []) × (table ≡ SourceRecord))
+    ⊎ ((DeletesAmong source_state sql [] 0 × (params ≡ []) × (table ≡ SourceState))
+    ⊎ ((UpdatesAmong office sql [] second_format 0 × (params ≡ []) × (table ≡ Office))
+    ⊎ ((entry : Entry) × IsTextOfWrite (write.PutsRecord entry) sql × (params ≡ written_by (write.PutsRecord entry)) × (table ≡ table_written (write.PutsRecord entry)))))
+
+-- a statement of the upgrade failed in the transaction, under the limit of steps that there was, with an error of which this is the fault
 abbrev pub FailsToMove : {S : Type 0} → Ghosts S → Held S → Held S → StoreFault → Type 0
 FailsToMove {S} g old new fault =
     (at : Held S) × (sql : List ℕ) × (params : Row) × (e : Error) × (table : Table) × IsTrue (state g at).in_transaction × ((state g at).step_limit ≡ (state g old).step_limit)
-    × Executes sql params (state g at) (state g new) (Err e) × (fault ≡ fault_of e table)
+    × IsUpgrading (state g at).now.schema sql params table × Executes sql params (state g at) (state g new) (Err e) × (fault ≡ fault_of e table)
 
 -- the connection is open, and a transaction is under way
 pub record IsInside (s : State) : Type 0 where
