@@ -1,5 +1,5 @@
 """The programs of crates/trials and crates/allocations, which tests run. A line on the standard input of `trials` says what follows,
-`requests`, `streams`, `messages`, `merges` or `stops`.
+`requests`, `streams`, `messages`, `merges`, `stops` or `memory`.
 
 From the environment: TRIALS and ALLOCATIONS are the programs, those of the crates where they are not set, which are then built if need be.
 """
@@ -9,8 +9,8 @@ import sys
 from pathlib import Path
 
 ROOT = Path(__file__).resolve().parent.parent
-REQUESTS, MESSAGES, MERGES, STOPS = "requests\n", "messages\n", "merges\n", "stops\n"
-STREAMS = "streams\n"
+REQUESTS, STREAMS, MESSAGES = "requests\n", "streams\n", "messages\n"
+MERGES, STOPS, MEMORY = "merges\n", "stops\n", "memory\n"
 
 
 def is_stale(program):

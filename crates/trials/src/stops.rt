@@ -8,6 +8,8 @@
 //! open LOG DB LOG-LEFT DB-LEFT           opens the office, and gives it up
 //! close LOG DB LOG-LEFT DB-LEFT          opens the office, and closes it
 //! keep                                   at the end: the files that are left are those of the trials from here on
+//! unopened                               at the end: the rows are those of the tables as they stand, and no office is opened for them
+//! begin DATABASE                         alone: the files are from here on a database of the bytes of this file, and an empty log
 //! lives LOG DB LINES..                   alone: over new files, an office lives once for each file of lines, none of which is a merge
 //! ```
 //!
@@ -15,14 +17,14 @@
 //! second one alone stop so, and a power cut follows each life, which hands them out. LOG-LEFT and DB-LEFT are
 //! `kept` if the file then holds all that was written, as after a kill, and `lost` if it holds what was synced, as a power cut may
 //! leave it. To standard output go the answers; `fault NAME` if an opening or a closing fails; and, unless the files are kept, each row
-//! of the office that is found in them at the end. The last line of a trial is `end`. A run whose office is not opened ends the program.
+//! of the office that is found in them at the end, with `none TABLE` for a table that is not there. The last line of a trial is `end`. A run
+//! whose office is not opened ends the program.
 //!
 //! A session or a life whose opening fails, or whose office is open and is not closed, gives no files back: then `gone` stands for the rows, and
 //! the trial ends there. Of lives go to standard output `opened N` before the answers of each life, with the count of accepted commands that its
 //! opening found; after the lives `cut N` for each power cut, with the count in a copy of the files that it handed back, or `cut none` if that could not be
 //! opened, and `left N`, how many cuts are left. What is not synced at the end of a life is lost.
 
-mod commands;
 pub(crate) mod disk;
 mod lists;
 mod lives;
@@ -34,8 +36,9 @@ pub(crate) mod work;
 
 use anyhow::Result;
 use disk::Images;
-use stage::Stage;
+use stage::{End, Stage};
 use std::alloc::Global;
+use std::fs;
 use std::io::{BufRead, Write};
 use std::rt::Files as FileHandle;
 
@@ -54,6 +57,8 @@ pub(crate) fn make_all<F: FileHandle + AllocGlobal, R: BufRead + Drop, W: Write>
         }
         if let Some(words) = line.strip_prefix("lives ") {
             lives::show(rt, alloc, words, output)?;
+        } else if let Some(name) = line.strip_prefix("begin ") {
+            kept = Images::begun(alloc, fs::read(rt, name.trim_end())?);
         } else if let Some(images) = stopped(rt, alloc, &kept, &line, output)? {
             kept = images;
         }
@@ -71,15 +76,16 @@ fn stopped<F: FileHandle + AllocGlobal, W: Write>(
     line: &str,
     output: &mut W,
 ) -> Result<Option<Images>> {
-    let (stages, keeps) = stage::stages_of(alloc, line)?;
+    let (stages, end) = stage::stages_of(alloc, line)?;
     let Some(images) = carry_out(rt, alloc, kept, &stages, output)? else {
         writeln!(output, "gone")?;
         return Ok(None);
     };
-    if keeps {
-        return Ok(Some(images));
+    match end {
+        End::Kept => return Ok(Some(images)),
+        End::Opened => rows::show(alloc, &images, output)?,
+        End::Unopened => rows::show_unopened(alloc, &images, output)?,
     }
-    rows::show(alloc, &images, output)?;
     Ok(None)
 }
 

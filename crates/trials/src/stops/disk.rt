@@ -29,6 +29,14 @@ impl Images {
         }
     }
 
+    /// A database of these bytes, and an empty log.
+    pub(crate) fn begun(alloc: Global, db: Vec<u8>) -> Images {
+        Images {
+            log: Vec::new(alloc),
+            db,
+        }
+    }
+
     pub(crate) fn copied(&self) -> Result<Images, AllocError> {
         Ok(Images {
             log: self.log.clone()?,

@@ -2,7 +2,8 @@
 
 ghost use Rattle.std.specs.Prelude.{◌≤◌, length};
 
-use crate::stops::commands::{commands_of, show_outcomes};
+use crate::commands::commands_of;
+use crate::outcomes::show_outcomes;
 use crate::stops::disk::{Images, Stopping};
 use crate::stops::power::{Calls, Watching};
 use crate::stops::rows;

@@ -1,9 +1,9 @@
 //! The rows that are found in the files.
 
-use crate::stops::disk::Images;
+use crate::stops::disk::{Images, Stopping};
 use anyhow::{Result, anyhow};
 use sqlite::types::ValueRef;
-use sqlite::{Alter, Connection, Options, Row};
+use sqlite::{Alter, Connection, FileStore, Options, Row};
 use sqlite_disk::Disk;
 use std::alloc::Global;
 use std::io::Write;
@@ -26,39 +26,75 @@ const TABLES: [(&str, &str); 6] = [
     ("scratch_binary", "SELECT seq FROM scratch_binary"),
 ];
 
+/// The table of the records of the first schema, with the statement that reads it.
+const FIRST_RECORDS: (&str, &str) = (
+    "source_state",
+    "SELECT arch, source, state, version, priority, section, earlier, number, holder, take, waits, depends, note, message, rank FROM source_state ORDER BY arch, source",
+);
+
 /// Writes each row of the office in the files, or why there is none.
 pub(crate) fn show<W: Write>(alloc: Global, images: &Images, output: &mut W) -> Result<()> {
-    let files = images.files(alloc, u64::MAX, u64::MAX)?;
-    if !files.log.may_be_used() || !files.db.may_be_used() {
-        return Err(anyhow!("a file cannot be used"));
-    }
-    let mut conn = match wb_sql::open(alloc, files, Options::new(2)) {
-        Ok(conn) => conn,
-        Err((error, _)) => {
-            writeln!(output, "fault {}", opening_fault(error).name())?;
-            return Ok(());
-        }
+    let Some(mut conn) = opened(alloc, images, output)? else {
+        return Ok(());
     };
     if let Err(fault) = laws::prepare(&mut conn) {
         writeln!(output, "fault {}", fault.name())?;
         return Ok(());
     }
+    show_tables(&mut conn, output)
+}
+
+/// Writes each row of the tables of both schemas that the files hold, or why there is none; no office is opened.
+pub(crate) fn show_unopened<W: Write>(
+    alloc: Global,
+    images: &Images,
+    output: &mut W,
+) -> Result<()> {
+    let Some(mut conn) = opened(alloc, images, output)? else {
+        return Ok(());
+    };
+    show_tables(&mut conn, output)?;
+    let (table, statement) = FIRST_RECORDS;
+    show_table(&mut conn, table, statement, output)
+}
+
+/// The database in the files; none if it cannot be opened, whose fault is then written.
+fn opened<W: Write>(
+    alloc: Global,
+    images: &Images,
+    output: &mut W,
+) -> Result<Option<Connection<FileStore<Stopping>>>> {
+    let files = images.files(alloc, u64::MAX, u64::MAX)?;
+    if !files.log.may_be_used() || !files.db.may_be_used() {
+        return Err(anyhow!("a file cannot be used"));
+    }
+    match wb_sql::open(alloc, files, Options::new(2)) {
+        Ok(conn) => Ok(Some(conn)),
+        Err((error, _)) => {
+            writeln!(output, "fault {}", opening_fault(error).name())?;
+            Ok(None)
+        }
+    }
+}
+
+/// Writes the rows of each table of an office.
+fn show_tables<S: Alter, W: Write>(conn: &mut Connection<S>, output: &mut W) -> Result<()> {
     for (table, statement) in &TABLES {
-        show_table(&mut conn, table, statement, output)?;
+        show_table(conn, table, statement, output)?;
     }
     Ok(())
 }
 
-/// Writes the rows that a statement reads.
+/// Writes the rows that a statement reads, or that its table cannot be read.
 fn show_table<S: Alter, W: Write>(
     conn: &mut Connection<S>,
     table: &str,
     statement: &str,
     output: &mut W,
 ) -> Result<()> {
-    let rows = match wb_sql::read(conn, statement, &[]) {
-        Ok(rows) => rows,
-        Err(_) => return Err(anyhow!("the table {table} cannot be read")),
+    let Ok(rows) = wb_sql::read(conn, statement, &[]) else {
+        writeln!(output, "none {table}")?;
+        return Ok(());
     };
     for row in &rows {
         show_row(row, table, output)?;

@@ -1,6 +1,7 @@
 //! One life of an office over files that stop, with commands that are given at once.
 
-use crate::stops::commands::{commands_of, show_outcomes};
+use crate::commands::commands_of;
+use crate::outcomes::show_outcomes;
 use crate::stops::disk::Stopping;
 use crate::stops::work::SEED;
 use anyhow::{Result, bail};

@@ -34,8 +34,19 @@ pub(crate) struct Stage<'a> {
     pub(crate) db: Stop,
 }
 
-/// The stages that a line names, and whether the files that they leave are kept.
-pub(crate) fn stages_of<'a>(alloc: Global, line: &'a str) -> Result<(Vec<Stage<'a>>, bool)> {
+/// What becomes of the files that the stages of a trial leave.
+#[derive(Clone, Copy)]
+pub(crate) enum End {
+    /// An office is opened in them, and its rows are shown.
+    Opened,
+    /// The rows of their tables are shown as they stand.
+    Unopened,
+    /// They are those of the trials from here on.
+    Kept,
+}
+
+/// The stages that a line names, and what becomes of the files that they leave.
+pub(crate) fn stages_of<'a>(alloc: Global, line: &'a str) -> Result<(Vec<Stage<'a>>, End)> {
     let mut stages = Vec::new(alloc);
     let mut words = line.split_whitespace();
     for _ in 0..line.len() {
@@ -45,12 +56,15 @@ pub(crate) fn stages_of<'a>(alloc: Global, line: &'a str) -> Result<(Vec<Stage<'
             Some("session") => Work::Session(words.next().context("a session has no lines")?),
             Some("open") => Work::Open,
             Some("close") => Work::Close,
-            Some("keep") => return Ok((stages, true)),
-            Some(_) => bail!("a stage begins with run, session, open, close or keep"),
+            Some("keep") => return Ok((stages, End::Kept)),
+            Some("unopened") => return Ok((stages, End::Unopened)),
+            Some(_) => bail!(
+                "a stage begins with run, session, open or close, and after the last stand keep or unopened"
+            ),
         };
         stages.push(stage_of(work, &mut words)?)?;
     }
-    Ok((stages, false))
+    Ok((stages, End::Opened))
 }
 
 /// The stage with this work, the stops of which are the next four words.
