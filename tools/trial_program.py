@@ -1,7 +1,8 @@
-"""The programs of crates/trials and crates/allocations, which tests run. A line on the standard input of `trials` says what follows,
-`requests`, `streams`, `messages`, `merges`, `stops` or `memory`.
+"""The programs of crates/trials, crates/allocations and crates/office_allocations, which tests run. A line on the standard input of `trials`
+says what follows, `requests`, `streams`, `messages`, `merges` or `stops`.
 
-From the environment: TRIALS and ALLOCATIONS are the programs, those of the crates where they are not set, which are then built if need be.
+From the environment: TRIALS, ALLOCATIONS and OFFICE_ALLOCATIONS are the programs, those of the crates where they are not set, which are then
+built if need be.
 """
 import os
 import subprocess
@@ -10,7 +11,7 @@ from pathlib import Path
 
 ROOT = Path(__file__).resolve().parent.parent
 REQUESTS, STREAMS, MESSAGES = "requests\n", "streams\n", "messages\n"
-MERGES, STOPS, MEMORY = "merges\n", "stops\n", "memory\n"
+MERGES, STOPS = "merges\n", "stops\n"
 
 
 def is_stale(program):

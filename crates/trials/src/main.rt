@@ -1,17 +1,13 @@
 //! Trials of the office over memory. A line of standard input says which come after it: `requests` for requests over HTTP, up to a line
 //! `end`; `streams` for lines and requests of which a read or a write fails, up to one too;
 //! `messages` for what each fault and refusal prints, which need nothing more; `merges` for merges of lists that readers give in pieces,
-//! `stops` for stops within a call of the disk, or `memory` for calls while a request for memory is refused, each up to the end of the
-//! input.
+//! or `stops` for stops within a call of the disk, each up to the end of the input.
 #![tactic(auto)]
 
-mod commands;
 mod cut;
 mod frames;
-mod memory;
 mod merges;
 mod messages;
-mod outcomes;
 mod reader;
 mod requests;
 mod stops;
@@ -35,7 +31,6 @@ fn main(rt: HostRuntime) -> Result<()> {
             "messages" => messages::show_all(rt.alloc(), &mut output)?,
             "merges" => merges::make_all(&rt, rt.alloc(), &mut input, &mut output)?,
             "stops" => stops::make_all(&rt, rt.alloc(), &mut input, &mut output)?,
-            "memory" => memory::make_all(&rt, rt.alloc(), &mut input, &mut output)?,
             other => bail!("no trials are named {other}"),
         }
     }

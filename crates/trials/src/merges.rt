@@ -12,10 +12,7 @@
 
 use crate::cut::{Cut, Failure};
 use crate::reader::CutReader;
-use crate::stops::disk::Images;
-use crate::stops::rows;
-use crate::stops::stage::Stop;
-use crate::stops::work::{StoppingOffice, answer, opened};
+use crate::stops::work::{StoppingOffice, answer};
 use anyhow::{Context, Result, bail};
 use deb_text::{Items, Text};
 use std::alloc::Global;
@@ -23,15 +20,10 @@ use std::fs;
 use std::io::{BufRead, BufReader, Write};
 use std::rt::Files as FileHandle;
 use std::str::SplitWhitespace;
-use wb_api::{refusal_json, reply_json};
+use trial_office::{Images, opened, show_outcome, show_rows};
 use wb_archive::ArchList;
-use wb_states::{Command, Part, Refusal, Reply, command};
-
-/// A file takes this many calls and keeps all that was written: it never stops.
-const NEVER: Stop = Stop {
-    calls: u64::MAX,
-    is_kept: true,
-};
+use wb_office::Outcome;
+use wb_states::{Command, Part, command};
 
 /// The list of an architecture, and the bytes of it.
 #[derive(Drop)]
@@ -122,30 +114,13 @@ fn make<F: FileHandle + AllocGlobal, W: Write>(
         }
         _ => bail!("a trial is whole or in pieces"),
     };
-    show_answer(alloc, &answered, output)?;
-    let images = Images::left(alloc, office.surrender(), NEVER, NEVER)?;
-    rows::show(alloc, &images, output)
-}
-
-/// Writes what was answered.
-fn show_answer<W: Write>(
-    alloc: Global,
-    answered: &Result<Reply, Refusal>,
-    output: &mut W,
-) -> Result<()> {
-    match answered {
-        Ok(reply) => writeln!(output, "{}", reply_json(alloc, "merge", reply)?.as_str())?,
-        Err(refusal) => writeln!(output, "{}", refusal_json(alloc, refusal).as_str())?,
-    }
-    Ok(())
+    show_outcome(alloc, "merge", &answered, output)?;
+    let images = Images::of(alloc, &office.surrender())?;
+    show_rows(alloc, &images, output)
 }
 
 /// The merge as a command.
-fn merge_whole(
-    office: &mut StoppingOffice,
-    lists: Lists,
-    alloc: Global,
-) -> Result<Result<Reply, Refusal>> {
+fn merge_whole(office: &mut StoppingOffice, lists: Lists, alloc: Global) -> Result<Outcome> {
     let Lists { sources, parts } = lists;
     let mut given = Items::new(alloc);
     for part in parts {
@@ -167,7 +142,7 @@ fn merge_pieces(
     office: &mut StoppingOffice,
     lists: &Lists,
     pieces: Pieces,
-) -> Result<Result<Reply, Refusal>> {
+) -> Result<Outcome> {
     let mut parts = Vec::new(alloc);
     let mut place: usize = 0;
     for part in &lists.parts {

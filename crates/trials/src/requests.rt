@@ -12,6 +12,7 @@ use anyhow::{Context, Result};
 use opening::MemoryOffice;
 use std::alloc::Global;
 use std::io::{BufRead, Write};
+use trial_office::word_of;
 use wb_api::{Routes, Served, serve_one};
 use wb_streams::{WatchedReader, WatchedWriter};
 
@@ -76,15 +77,4 @@ fn answered(
     let served = serve_one(alloc, routes, office, &mut reader, &mut writer);
     drop(writer);
     (served, answer.taken())
-}
-
-/// The word for how an exchange ended, and the status of what was answered.
-pub(crate) fn word_of(served: Served) -> (&'static str, u16) {
-    match served {
-        Served::Nothing => ("nothing", 0),
-        Served::ReadFailed => ("read-failed", 0),
-        Served::Answered { status } => ("answered", status.as_u16()),
-        Served::WriteFailed { status } => ("write-failed", status.as_u16()),
-        Served::Mute => ("mute", 0),
-    }
 }

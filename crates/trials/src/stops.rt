@@ -25,22 +25,20 @@
 //! opening found; after the lives `cut N` for each power cut, with the count in a copy of the files that it handed back, or `cut none` if that could not be
 //! opened, and `left N`, how many cuts are left. What is not synced at the end of a life is lost.
 
-pub(crate) mod disk;
 mod lists;
 mod lives;
 mod power;
-pub(crate) mod rows;
 mod session;
-pub(crate) mod stage;
+mod stage;
 pub(crate) mod work;
 
 use anyhow::Result;
-use disk::Images;
 use stage::{End, Stage};
 use std::alloc::Global;
 use std::fs;
 use std::io::{BufRead, Write};
 use std::rt::Files as FileHandle;
+use trial_office::{Images, show_rows, show_unopened_rows};
 
 /// Makes each trial of the input.
 pub(crate) fn make_all<F: FileHandle + AllocGlobal, R: BufRead + Drop, W: Write>(
@@ -83,8 +81,8 @@ fn stopped<F: FileHandle + AllocGlobal, W: Write>(
     };
     match end {
         End::Kept => return Ok(Some(images)),
-        End::Opened => rows::show(alloc, &images, output)?,
-        End::Unopened => rows::show_unopened(alloc, &images, output)?,
+        End::Opened => show_rows(alloc, &images, output)?,
+        End::Unopened => show_unopened_rows(alloc, &images, output)?,
     }
     Ok(None)
 }

@@ -1,16 +1,13 @@
 //! The office that the requests are sent to.
 
-use anyhow::{Context, Result, anyhow};
+use anyhow::{Context, Result};
 use deb_text::{Items, Text};
-use sqlite::{FileStore, Files, Options};
+use sqlite::{FileStore, Files};
 use sqlite_disk::Memory;
 use std::alloc::{AllocError, Global};
 use wb_office::Office;
 use wb_states::Command;
 use wb_states::command::{AddArch, AddBuilder, Merge, Part};
-
-/// The salt of the log.
-const SEED: u64 = 1;
 
 /// The builders, each with an architecture for which it was added.
 const BUILDERS: [(&str, &str); 4] = [
@@ -29,10 +26,7 @@ pub(crate) fn opened(alloc: Global) -> Result<MemoryOffice> {
         log: Memory::new(alloc),
         db: Memory::new(alloc),
     };
-    match Office::open(alloc, files, Options::new(SEED)) {
-        Ok(office) => Ok(office),
-        Err(fault) => Err(anyhow!("the office cannot be opened: {fault}")),
-    }
+    trial_office::opened(alloc, files)
 }
 
 /// An office with the architectures amd64 and arm64, the builders b1 for the first, b2 for the second and b3 for both, and the

@@ -2,13 +2,8 @@
 
 ghost use Rattle.std.specs.Prelude.{◌≤◌, length};
 
-use crate::commands::commands_of;
-use crate::outcomes::show_outcomes;
-use crate::stops::disk::{Images, Stopping};
 use crate::stops::power::{Calls, Watching};
-use crate::stops::rows;
 use crate::stops::stage::number_of;
-use crate::stops::work::SEED;
 use anyhow::{Result, anyhow, bail};
 use deb_text::Items;
 use sqlite::Options;
@@ -16,6 +11,7 @@ use sqlite_disk::Disk;
 use std::alloc::Global;
 use std::io::Write;
 use std::rt::Files as FileHandle;
+use trial_office::{Images, SEED, Stopping, commands_of, show_outcomes, show_rows};
 use wb_office::{Found, LivesEnd, lives};
 use wb_states::Command;
 
@@ -50,7 +46,7 @@ fn show_all<W: Write>(
     show_lives(alloc, commands, found.as_slice(), output)?;
     show_power(&power, output)?;
     match files {
-        Some(files) => rows::show(alloc, &Images::of(alloc, &files)?, output),
+        Some(files) => show_rows(alloc, &Images::of(alloc, &files)?, output),
         None => {
             writeln!(output, "gone")?;
             Ok(())

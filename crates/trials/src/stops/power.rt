@@ -4,12 +4,11 @@ ghost use Rattle.std.specs.Prelude.{◌≡◌, ◌<◌, ◌+◌, IsTrue};
 ghost use Rattle.sqlite.specs.WalFiles.{outcomes};
 ghost use Rattle.sqlite.specs.WalReads.{AreClean};
 
-use crate::stops::disk::{Fused, Images};
-use crate::stops::work::opened;
 use anyhow::Result;
 use sqlite::Files;
 use sqlite_disk::Disk;
 use std::alloc::Global;
+use trial_office::{Fused, Images, opened};
 use wb_office::{Crashes, Power};
 use wb_step::CarryOut;
 

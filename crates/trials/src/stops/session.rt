@@ -1,9 +1,5 @@
 //! One life of an office over files that stop, with commands that are given at once.
 
-use crate::commands::commands_of;
-use crate::outcomes::show_outcomes;
-use crate::stops::disk::Stopping;
-use crate::stops::work::SEED;
 use anyhow::{Result, bail};
 use deb_text::Items;
 use sqlite::{Files, Options};
@@ -11,6 +7,7 @@ use sqlite_disk::Disk;
 use std::alloc::Global;
 use std::io::Write;
 use std::rt::Files as FileHandle;
+use trial_office::{SEED, Stopping, commands_of, show_outcomes};
 use wb_office::{SessionEnd, session};
 use wb_states::Command;
 

@@ -3,6 +3,7 @@
 use anyhow::{Context, Result, bail};
 use std::alloc::Global;
 use std::str::SplitWhitespace;
+use trial_office::Stop;
 
 /// What an office does until its files stop.
 #[derive(Clone, Copy)]
@@ -15,15 +16,6 @@ pub(crate) enum Work<'a> {
     Open,
     /// It is opened, and closed.
     Close,
-}
-
-/// When a file stops, and what is left of it.
-#[derive(Clone, Copy)]
-pub(crate) struct Stop {
-    /// How many calls it takes.
-    pub(crate) calls: u64,
-    /// Whether all that was written is left, or only what was synced.
-    pub(crate) is_kept: bool,
 }
 
 /// Work over two files that stop.

@@ -1,6 +1,8 @@
 //! The rows that are found in the files.
 
-use crate::stops::disk::{Images, Stopping};
+ghost use Rattle.std.specs.Prelude.{◌≡◌, false, IfOk, IfSome};
+
+use crate::images::{Images, Stopping};
 use anyhow::{Result, anyhow};
 use sqlite::types::ValueRef;
 use sqlite::{Alter, Connection, FileStore, Options, Row};
@@ -33,7 +35,7 @@ const FIRST_RECORDS: (&str, &str) = (
 );
 
 /// Writes each row of the office in the files, or why there is none.
-pub(crate) fn show<W: Write>(alloc: Global, images: &Images, output: &mut W) -> Result<()> {
+pub fn show_rows<W: Write>(alloc: Global, images: &Images, output: &mut W) -> Result<()> {
     let Some(mut conn) = opened(alloc, images, output)? else {
         return Ok(());
     };
@@ -45,11 +47,7 @@ pub(crate) fn show<W: Write>(alloc: Global, images: &Images, output: &mut W) -> 
 }
 
 /// Writes each row of the tables of both schemas that the files hold, or why there is none; no office is opened.
-pub(crate) fn show_unopened<W: Write>(
-    alloc: Global,
-    images: &Images,
-    output: &mut W,
-) -> Result<()> {
+pub fn show_unopened_rows<W: Write>(alloc: Global, images: &Images, output: &mut W) -> Result<()> {
     let Some(mut conn) = opened(alloc, images, output)? else {
         return Ok(());
     };
@@ -63,7 +61,9 @@ fn opened<W: Write>(
     alloc: Global,
     images: &Images,
     output: &mut W,
-) -> Result<Option<Connection<FileStore<Stopping>>>> {
+) -> Result<Option<Connection<FileStore<Stopping>>>>
+    ensures idle { IfOk result (λ found. IfSome found (λ conn. conn.in_transaction ≡ false)) }
+{
     let files = images.files(alloc, u64::MAX, u64::MAX)?;
     if !files.log.may_be_used() || !files.db.may_be_used() {
         return Err(anyhow!("a file cannot be used"));

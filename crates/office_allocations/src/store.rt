@@ -1,15 +1,15 @@
 //! The calls of a store that the office does not make alone.
 
-use crate::memory::Call;
-use crate::memory::answers::show_rows;
-use crate::memory::disk::Kept;
-use crate::memory::opening::connected;
-use crate::memory::refusing::{begin, stop};
-use crate::stops::disk::Images;
+use crate::Call;
+use crate::answers::show_table_rows;
+use crate::device::Kept;
+use crate::opening::connected;
+use crate::refusing::{begin, stop};
 use anyhow::{Result, anyhow, bail};
 use sqlite::FileStore;
 use std::alloc::Global;
 use std::io::Write;
+use trial_office::Images;
 use wb_store::Store;
 
 /// A store over files in memory.
@@ -73,7 +73,7 @@ fn rows_once<W: Write>(
     let found = store.rows(alloc);
     stop(alloc, refused);
     match found {
-        Ok(rows) => show_rows(rows.as_slice(), output),
+        Ok(rows) => show_table_rows(rows.as_slice(), output),
         Err(fault) => {
             writeln!(output, "fault {}", fault.name())?;
             Ok(())

@@ -1,12 +1,7 @@
 //! One life of an office, and lives one after another, over files in memory.
 
-use crate::commands::commands_of;
-use crate::memory::disk::{Kept, files_of, images_of};
-use crate::memory::office::SEED;
-use crate::memory::refusing::{begin, stop};
-use crate::outcomes::show_outcomes;
-use crate::stops::disk::Images;
-use crate::stops::rows;
+use crate::device::{Kept, files_of, images_of};
+use crate::refusing::{begin, stop};
 use anyhow::{Result, bail};
 use deb_text::Items;
 use sqlite::{Files, Options};
@@ -14,6 +9,7 @@ use sqlite_disk::Disk;
 use std::alloc::Global;
 use std::io::Write;
 use std::rt::Files as FileHandle;
+use trial_office::{Images, SEED, commands_of, show_outcomes, show_rows};
 use wb_office::{Crashes, Found, LivesEnd, Outcome, SessionEnd, lives, session};
 use wb_states::Command;
 
@@ -121,7 +117,7 @@ fn show_found<W: Write>(
 /// Writes the rows that are found in the files, or that there are no files.
 fn show_left<W: Write>(alloc: Global, files: Option<Files<Kept>>, output: &mut W) -> Result<()> {
     match files {
-        Some(files) => rows::show(alloc, &images_of(alloc, files)?, output),
+        Some(files) => show_rows(alloc, &images_of(alloc, files)?, output),
         None => {
             writeln!(output, "no files")?;
             Ok(())

@@ -1,44 +1,27 @@
 //! The calls of an open office.
 
-use crate::commands::{Given, command_of, given_of, query_of, readers_of};
-use crate::memory::Call;
-use crate::memory::answers::show_answer;
-use crate::memory::disk::{Kept, files_of, images_of};
-use crate::memory::refusing::{begin, stop};
-use crate::outcomes::show_outcome;
-use crate::stops::disk::Images;
-use crate::stops::rows;
-use anyhow::{Context, Result, anyhow, bail};
-use sqlite::{FileStore, Files, Options};
-use sqlite_disk::Disk;
+use crate::Call;
+use crate::answers::show_answer;
+use crate::device::{Kept, files_of, images_of};
+use crate::refusing::{begin, stop};
+use anyhow::{Context, Result, anyhow};
+use sqlite::FileStore;
 use std::alloc::Global;
 use std::io::Write;
 use std::rt::Files as FileHandle;
+use trial_office::{
+    Given, Images, command_of, given_of, query_of, readers_of, show_outcome, show_rows,
+};
 use wb_office::{Office, Outcome};
 use wb_states::command::Merge;
 use wb_states::{Command, Query};
-
-/// The salt of the log.
-pub(crate) const SEED: u64 = 1;
 
 /// An office over files in memory.
 pub(crate) type KeptOffice = Office<FileStore<Kept>>;
 
 /// The office that files with this content hold.
 pub(crate) fn opened(alloc: Global, images: &Images) -> Result<KeptOffice> {
-    let files = files_of(alloc, images)?;
-    office_in(alloc, files)
-}
-
-/// The office that the files hold.
-fn office_in(alloc: Global, files: Files<Kept>) -> Result<KeptOffice> {
-    if !files.log.may_be_used() || !files.db.may_be_used() {
-        bail!("a file cannot be used");
-    }
-    match Office::open(alloc, files, Options::new(SEED)) {
-        Ok(office) => Ok(office),
-        Err(fault) => Err(anyhow!("the office cannot be opened: {fault}")),
-    }
+    trial_office::opened(alloc, files_of(alloc, images)?)
 }
 
 /// The office after a call, of which this was shown: the one that its files hold, after a line `closed`, if the call closed
@@ -53,7 +36,7 @@ pub(crate) fn open_after<W: Write>(
         let files = office.surrender();
         shown?;
         writeln!(output, "closed")?;
-        return office_in(alloc, files);
+        return trial_office::opened(alloc, files);
     }
     if let Err(error) = shown {
         let _files = office.surrender();
@@ -90,19 +73,19 @@ pub(crate) fn apply<F: FileHandle + AllocGlobal, W: Write>(
     let (line, asked) = call.words.split_once(" ; ").context("no query is named")?;
     let given = given_of(rt, alloc, line)?;
     let query = query_of(alloc, asked)?;
-    let office = opened(alloc, images)?;
-    apply_twice(alloc, office, &given, &query, call.refused, output)
+    apply_twice(alloc, images, &given, &query, call.refused, output)
 }
 
 /// A command, of which a request for memory is refused, a query after it, and the command once more.
 fn apply_twice<W: Write>(
     alloc: Global,
-    mut office: KeptOffice,
+    images: &Images,
     given: &Given,
     query: &Query,
     refused: u32,
     output: &mut W,
 ) -> Result<()> {
+    let mut office = opened(alloc, images)?;
     let first = apply_once(alloc, &mut office, given, Some(refused), output);
     let mut office = open_after(alloc, office, first, output)?;
     let again = apply_again(alloc, &mut office, given, query, output);
@@ -131,12 +114,23 @@ pub(crate) fn leave<F: FileHandle + AllocGlobal, W: Write>(
     output: &mut W,
 ) -> Result<()> {
     let given = given_of(rt, alloc, call.words)?;
+    apply_and_leave(alloc, images, &given, call.refused, output)
+}
+
+/// A command, of which a request for memory is refused, and the rows that are found in the files once the office is given up.
+fn apply_and_leave<W: Write>(
+    alloc: Global,
+    images: &Images,
+    given: &Given,
+    refused: u32,
+    output: &mut W,
+) -> Result<()> {
     let mut office = opened(alloc, images)?;
-    let shown = apply_once(alloc, &mut office, &given, Some(call.refused), output);
+    let shown = apply_once(alloc, &mut office, given, Some(refused), output);
     let files = office.surrender();
     shown?;
     let left = images_of(alloc, files)?;
-    rows::show(alloc, &left, output)
+    show_rows(alloc, &left, output)
 }
 
 /// A query, and the query once more.

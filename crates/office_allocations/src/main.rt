@@ -25,8 +25,10 @@
 //! is closed by the first call is opened again before the second, after a line `closed`. The last line for each line of the input is `end`.
 //! Without the library nothing is refused.
 
+#![tactic(auto)]
+
 mod answers;
-mod disk;
+mod device;
 mod exchange;
 mod lives;
 mod office;
@@ -34,11 +36,11 @@ mod opening;
 mod refusing;
 mod store;
 
-use crate::stops::disk::Images;
 use anyhow::{Context, Result, bail};
 use std::alloc::Global;
-use std::io::{BufRead, Write};
+use std::io::{self, BufRead, BufReader, BufWriter, Write};
 use std::rt::Files;
+use trial_office::Images;
 
 /// A call that a line asks for.
 #[derive(Clone, Copy)]
@@ -49,8 +51,14 @@ pub(crate) struct Call<'a> {
     pub(crate) words: &'a str,
 }
 
+fn main(rt: HostRuntime) -> Result<()> {
+    let mut input = BufReader::new(rt.alloc(), rt.reader())?;
+    let mut output = BufWriter::new(rt.alloc(), io::writer(&rt))?;
+    make_all(&rt, rt.alloc(), &mut input, &mut output)
+}
+
 /// Makes each call of the input.
-pub(crate) fn make_all<F: Files + AllocGlobal, R: BufRead + Drop, W: Write>(
+fn make_all<F: Files + AllocGlobal, R: BufRead + Drop, W: Write>(
     rt: &F,
     alloc: Global,
     input: &mut R,

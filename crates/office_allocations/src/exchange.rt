@@ -1,18 +1,16 @@
 //! One exchange over HTTP with an office.
 
-use crate::memory::Call;
-use crate::memory::disk::images_of;
-use crate::memory::office::{KeptOffice, open_after, opened};
-use crate::memory::refusing::{begin, stop};
-use crate::requests::word_of;
-use crate::stops::disk::Images;
-use crate::stops::rows;
+use crate::Call;
+use crate::device::images_of;
+use crate::office::{KeptOffice, open_after, opened};
+use crate::refusing::{begin, stop};
 use anyhow::Result;
 use std::alloc::Global;
 use std::io::Write;
 use std::rt::Files;
 use std::{fs, str};
-use wb_api::{Routes, Served, serve_one};
+use trial_office::{Images, show_rows, word_of};
+use wb_api::{Routes, serve_one};
 use wb_streams::{WatchedReader, WatchedWriter};
 
 /// More bytes than an answer has.
@@ -70,7 +68,7 @@ pub(crate) fn serve_and_leave<F: Files + AllocGlobal, W: Write>(
     let files = office.surrender();
     shown?;
     let left = images_of(alloc, files)?;
-    rows::show(alloc, &left, output)
+    show_rows(alloc, &left, output)
 }
 
 /// Serves a request, and shows how the exchange ended and all that was answered. The room for the answer is taken before.

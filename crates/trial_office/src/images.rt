@@ -1,28 +1,36 @@
-//! The two files in memory.
+//! Two files in memory, a database and its log, which can be made to stop at a call.
 
 ghost use Rattle.std.specs.Prelude.{◌≡◌, ◌↔◌, ℕ, List, IsTrue, IfOk};
 ghost use Rattle.sqlite_disk.specs.Disk.{Only};
 ghost use Rattle.sqlite_disk.specs.Memory.{memory_bytes, memory_is_usable};
 
-use crate::stops::stage::Stop;
 use sqlite::Files;
 use sqlite_disk::{Crash, Disk, Fuse, Memory};
 use std::alloc::{AllocError, Global};
 use std::io;
 
 /// A file in memory that stops at a call.
-pub(crate) type Stopping = Fuse<Memory>;
+pub type Stopping = Fuse<Memory>;
+
+/// When a file stops, and what is left of it.
+#[derive(Clone, Copy)]
+pub struct Stop {
+    /// How many calls it takes.
+    pub calls: u64,
+    /// Whether all that was written is left, or only what was synced.
+    pub is_kept: bool,
+}
 
 /// What the two files hold.
 #[derive(Drop)]
-pub(crate) struct Images {
+pub struct Images {
     log: Vec<u8>,
     db: Vec<u8>,
 }
 
 impl Images {
     /// Empty files.
-    pub(crate) fn none(alloc: Global) -> Images {
+    pub fn none(alloc: Global) -> Images {
         Images {
             log: Vec::new(alloc),
             db: Vec::new(alloc),
@@ -30,14 +38,15 @@ impl Images {
     }
 
     /// A database of these bytes, and an empty log.
-    pub(crate) fn begun(alloc: Global, db: Vec<u8>) -> Images {
+    pub fn begun(alloc: Global, db: Vec<u8>) -> Images {
         Images {
             log: Vec::new(alloc),
             db,
         }
     }
 
-    pub(crate) fn copied(&self) -> Result<Images, AllocError> {
+    /// The same once more.
+    pub fn copied(&self) -> Result<Images, AllocError> {
         Ok(Images {
             log: self.log.clone()?,
             db: self.db.clone()?,
@@ -45,7 +54,7 @@ impl Images {
     }
 
     /// Files that hold this, and take so many calls.
-    pub(crate) fn files(
+    pub fn files(
         &self,
         alloc: Global,
         log_calls: u64,
@@ -58,7 +67,7 @@ impl Images {
     }
 
     /// What the files hold.
-    pub(crate) fn of<D: Fused>(alloc: Global, files: &Files<D>) -> Result<Images, AllocError> {
+    pub fn of<D: Fused>(alloc: Global, files: &Files<D>) -> Result<Images, AllocError> {
         let mut images = Images::none(alloc);
         images.log.extend_from_slice(files.log.bytes())?;
         images.db.extend_from_slice(files.db.bytes())?;
@@ -66,7 +75,7 @@ impl Images {
     }
 
     /// What is left of the files after these stops.
-    pub(crate) fn left(
+    pub fn left(
         alloc: Global,
         files: Files<Stopping>,
         log: Stop,
@@ -80,7 +89,7 @@ impl Images {
 }
 
 /// A file that can be made to stop.
-pub(crate) trait Fused: Crash {
+pub trait Fused: Crash {
     /// What the file holds.
     fn bytes(&self) -> &[u8];
 

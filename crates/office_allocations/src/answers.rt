@@ -21,7 +21,7 @@ pub(crate) fn show_answer<W: Write>(
 }
 
 /// Writes rows, each with the name of its table and its values.
-pub(crate) fn show_rows<W: Write>(rows: &[TableRow], output: &mut W) -> Result<()> {
+pub(crate) fn show_table_rows<W: Write>(rows: &[TableRow], output: &mut W) -> Result<()> {
     for row in rows {
         write!(output, "{}", row.table.name())?;
         show_cells(row.cells.as_slice(), output)?;

@@ -12,7 +12,7 @@ use wb_words::{Invocation, PartNames, invocation_of};
 
 /// How an office is given a command.
 #[derive(Drop)]
-pub(crate) enum Given {
+pub enum Given {
     /// As it is.
     Whole(Command),
     /// As a merge, the lists of which readers give.
@@ -21,7 +21,7 @@ pub(crate) enum Given {
 
 impl Given {
     /// The name of the command.
-    pub(crate) fn name(&self) -> &'static str {
+    pub fn name(&self) -> &'static str {
         match self {
             Given::Whole(command) => command.name(),
             Given::Read(_) => "merge",
@@ -30,7 +30,7 @@ impl Given {
 }
 
 /// What a line asks for: a command, or after the word `read` a merge the lists of which readers give.
-pub(crate) fn given_of<F: Files + AllocGlobal>(rt: &F, alloc: Global, line: &str) -> Result<Given> {
+pub fn given_of<F: Files + AllocGlobal>(rt: &F, alloc: Global, line: &str) -> Result<Given> {
     let Some(rest) = line.strip_prefix("read ") else {
         return Ok(Given::Whole(command_of(rt, alloc, line)?));
     };
@@ -41,7 +41,7 @@ pub(crate) fn given_of<F: Files + AllocGlobal>(rt: &F, alloc: Global, line: &str
 }
 
 /// The readers of the lists of the parts.
-pub(crate) fn readers_of<'a>(alloc: Global, parts: &'a [Part]) -> Result<Vec<ArchList<&'a [u8]>>> {
+pub fn readers_of<'a>(alloc: Global, parts: &'a [Part]) -> Result<Vec<ArchList<&'a [u8]>>> {
     let mut lists = Vec::new(alloc);
     for part in parts {
         lists.push(ArchList {
@@ -53,11 +53,7 @@ pub(crate) fn readers_of<'a>(alloc: Global, parts: &'a [Part]) -> Result<Vec<Arc
 }
 
 /// The command that a line asks for. The files that a merge or a report names are read whole.
-pub(crate) fn command_of<F: Files + AllocGlobal>(
-    rt: &F,
-    alloc: Global,
-    line: &str,
-) -> Result<Command> {
+pub fn command_of<F: Files + AllocGlobal>(rt: &F, alloc: Global, line: &str) -> Result<Command> {
     match asked(alloc, line)? {
         Invocation::Command { command } => Ok(command),
         Invocation::Merge { sources, parts } => merge_of(rt, alloc, &sources, parts.as_slice()),
@@ -67,7 +63,7 @@ pub(crate) fn command_of<F: Files + AllocGlobal>(
 }
 
 /// The query that a line asks for.
-pub(crate) fn query_of(alloc: Global, line: &str) -> Result<Query> {
+pub fn query_of(alloc: Global, line: &str) -> Result<Query> {
     match asked(alloc, line)? {
         Invocation::Query { query } => Ok(query),
         _ => bail!("a line asks for no query"),
@@ -75,7 +71,7 @@ pub(crate) fn query_of(alloc: Global, line: &str) -> Result<Query> {
 }
 
 /// The commands that the lines of a file ask for.
-pub(crate) fn commands_of<F: Files + AllocGlobal>(
+pub fn commands_of<F: Files + AllocGlobal>(
     rt: &F,
     alloc: Global,
     name: &str,

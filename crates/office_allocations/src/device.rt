@@ -1,13 +1,12 @@
 //! Files in memory that stand for a device: what they ask for is never refused.
 
-use crate::memory::refusing::{go_on, pause};
-use crate::stops::disk::{Images, Stopping};
-use crate::stops::stage::Stop;
+use crate::refusing::{go_on, pause};
 use anyhow::Result;
 use sqlite::Files;
 use sqlite_disk::{Crash, Disk, Tally};
 use std::alloc::Global;
 use std::io;
+use trial_office::{Images, Stopping};
 
 /// A file whose own memory is never refused.
 #[derive(Drop)]
@@ -18,12 +17,6 @@ pub(crate) struct Device<D: Disk> {
 
 /// A file in memory.
 pub(crate) type Kept = Device<Stopping>;
-
-/// All that was written is left of a file.
-const ALL: Stop = Stop {
-    calls: u64::MAX,
-    is_kept: true,
-};
 
 /// Files that hold this.
 pub(crate) fn files_of(alloc: Global, images: &Images) -> Result<Files<Kept>> {
@@ -45,7 +38,7 @@ pub(crate) fn images_of(alloc: Global, files: Files<Kept>) -> Result<Images> {
         alloc: _,
         inner: db,
     } = db;
-    Ok(Images::left(alloc, Files { log, db }, ALL, ALL)?)
+    Ok(Images::of(alloc, &Files { log, db })?)
 }
 
 impl<D: Disk> Disk for Device<D> {
