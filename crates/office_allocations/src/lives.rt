@@ -9,8 +9,8 @@ use sqlite_disk::Disk;
 use std::alloc::Global;
 use std::io::Write;
 use std::rt::Files as FileHandle;
-use trial_office::{Images, SEED, commands_of, show_outcomes, show_rows};
-use wb_office::{Crashes, Found, LivesEnd, Outcome, SessionEnd, lives, session};
+use trial_office::{Images, SEED, commands_of, show_found, show_outcomes, show_rows};
+use wb_office::{Crashes, LivesEnd, SessionEnd, lives, session};
 use wb_states::Command;
 
 /// `session` once, with the commands of a file.
@@ -89,29 +89,6 @@ fn lived<W: Write>(
             Ok(None)
         }
     }
-}
-
-/// Writes what each life found, and what its commands were answered.
-fn show_found<W: Write>(
-    alloc: Global,
-    commands: &[Items<Command>],
-    found: &[Found],
-    output: &mut W,
-) -> Result<()> {
-    for (life, one) in commands.iter().zip(found) {
-        match one {
-            Found::Opened {
-                accepted,
-                rows,
-                outcomes,
-            } => {
-                writeln!(output, "opened {accepted} {}", rows.as_slice().len())?;
-                show_outcomes(alloc, life.as_slice(), outcomes.as_slice(), output)?;
-            }
-            Found::Refused(fault) => writeln!(output, "fault {}", fault.name())?,
-        }
-    }
-    Ok(())
 }
 
 /// Writes the rows that are found in the files, or that there are no files.

@@ -1,11 +1,36 @@
 //! What commands and requests are answered, as lines.
 
 use anyhow::Result;
+use deb_text::Items;
 use std::alloc::Global;
 use std::io::Write;
 use wb_api::{Served, refusal_json, reply_json};
-use wb_office::Outcome;
+use wb_office::{Found, Outcome};
 use wb_states::Command;
+
+/// Writes what each life found, the count of accepted commands and that of rows, or the fault of its opening; and what its commands were
+/// answered.
+pub fn show_found<W: Write>(
+    alloc: Global,
+    commands: &[Items<Command>],
+    found: &[Found],
+    output: &mut W,
+) -> Result<()> {
+    for (life, one) in commands.iter().zip(found) {
+        match one {
+            Found::Opened {
+                accepted,
+                rows,
+                outcomes,
+            } => {
+                writeln!(output, "opened {accepted} {}", rows.as_slice().len())?;
+                show_outcomes(alloc, life.as_slice(), outcomes.as_slice(), output)?;
+            }
+            Found::Refused(fault) => writeln!(output, "fault {}", fault.name())?,
+        }
+    }
+    Ok(())
+}
 
 /// Writes what the commands of a life were answered.
 pub fn show_outcomes<W: Write>(

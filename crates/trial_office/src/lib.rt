@@ -8,7 +8,7 @@ mod images;
 mod openings;
 mod rows;
 
-pub use answers::{show_outcome, show_outcomes, word_of};
+pub use answers::{show_found, show_outcome, show_outcomes, word_of};
 pub use commands::{Given, command_of, commands_of, given_of, query_of, readers_of};
 pub use images::{Fused, Images, Stop, Stopping};
 pub use openings::{GivenBack, SEED, closed, opened, prepared};

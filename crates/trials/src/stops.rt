@@ -20,10 +20,10 @@
 //! of the office that is found in them at the end, with `none TABLE` for a table that is not there. The last line of a trial is `end`. A run
 //! whose office is not opened ends the program.
 //!
-//! A session or a life whose opening fails, or whose office is open and is not closed, gives no files back: then `gone` stands for the rows, and
-//! the trial ends there. Of lives go to standard output `opened N` before the answers of each life, with the count of accepted commands that its
-//! opening found; after the lives `cut N` for each power cut, with the count in a copy of the files that it handed back, or `cut none` if that could not be
-//! opened, and `left N`, how many cuts are left. What is not synced at the end of a life is lost.
+//! A session or a life whose opening fails, or whose office is open and is not closed, gives no files back: then `gone` stands for the rows, and the
+//! trial ends there. Of lives go to standard output `opened N ROWS` before the answers of each life, with the counts of accepted commands and of
+//! rows that its opening found; after the lives `cut N` for each power cut, with the count in a copy of the files that it handed back, or `cut none`
+//! if that could not be opened, and `left N`, how many cuts are left. What is not synced at the end of a life is lost.
 
 mod lists;
 mod lives;

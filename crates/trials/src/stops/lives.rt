@@ -11,8 +11,8 @@ use sqlite_disk::Disk;
 use std::alloc::Global;
 use std::io::Write;
 use std::rt::Files as FileHandle;
-use trial_office::{Images, SEED, Stopping, commands_of, show_outcomes, show_rows};
-use wb_office::{Found, LivesEnd, lives};
+use trial_office::{Images, SEED, Stopping, commands_of, show_found, show_rows};
+use wb_office::{LivesEnd, lives};
 use wb_states::Command;
 
 /// Has an office live once for each file of lines that is named, over new files, and writes what is found: for each life what its
@@ -43,7 +43,7 @@ fn show_all<W: Write>(
 ) -> Result<()> {
     let mut power = Watching::new(alloc, commands.len() as u64, calls);
     let LivesEnd { found, files } = lived(alloc, &mut power, commands)?;
-    show_lives(alloc, commands, found.as_slice(), output)?;
+    show_found(alloc, commands, found.as_slice(), output)?;
     show_power(&power, output)?;
     match files {
         Some(files) => show_rows(alloc, &Images::of(alloc, &files)?, output),
@@ -70,29 +70,6 @@ fn lived(
         Ok(end) => Ok(end),
         Err(fault) => Err(anyhow!("the lives failed: {fault}")),
     }
-}
-
-/// Writes what the openings of lives found, and what the commands of each life were answered.
-fn show_lives<W: Write>(
-    alloc: Global,
-    commands: &[Items<Command>],
-    found: &[Found],
-    output: &mut W,
-) -> Result<()> {
-    for (life, one) in commands.iter().zip(found) {
-        match one {
-            Found::Opened {
-                accepted,
-                outcomes,
-                ..
-            } => {
-                writeln!(output, "opened {accepted}")?;
-                show_outcomes(alloc, life.as_slice(), outcomes.as_slice(), output)?;
-            }
-            Found::Refused(fault) => writeln!(output, "fault {}", fault.name())?,
-        }
-    }
-    Ok(())
 }
 
 /// Writes what the power found after each cut, and how many cuts are left.
