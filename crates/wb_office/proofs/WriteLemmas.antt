@@ -2,10 +2,9 @@
 use Rattle.std.proofs.Common.{◌≡◌, ◌∙◌, ◌⊎◌, inl, inr, refl, sym, ap, subst, arith, ℕ, IsTrue, Result, Ok, Err, OnErr, IfErr, Option, Bool, true, false, ◌↔◌}
 use Rattle.std.specs.Prelude.{⊤}
 use Rattle.sqlite_trees.specs.declared.store.Store.{Ghosts}
-use Rattle.sqlite.specs.Tree.{Trees}
 use Rattle.sqlite.specs.Effect.{Database}
 use Rattle.sqlite.specs.Held.{Held, state}
-use Rattle.sqlite.specs.State.{State, HasCleanDisk, Survives}
+use Rattle.sqlite.specs.State.{HasCleanDisk}
 use Rattle.sqlite.proofs.StateLemmas.{survives_then, survives_weaker}
 use Rattle.wb_sql.specs.Transactions.{LeavesNoMore}
 use Rattle.wb_sql.proofs.CallLemmas.{on_ok}
@@ -21,6 +20,7 @@ use Rattle.wb_store.specs.Settled.{IsOffice, IsUnderWay, IsBackAt}
 use Rattle.wb_store.specs.Writes as write
 use Rattle.wb_store.specs.Writes.{OfficeWrite}
 use Rattle.wb_store.proofs.OthersLemmas.{others_then}
+pub use Rattle.wb_store.specs.MergeLaws.{survives_itself}
 use Rattle.wb_store.proofs.SettledLemmas.{not_changed, stays_or_goes_back}
 use Rattle.wb_office.specs.Changed.{HasFittingCounts, LacksFittingNumbers, found_at, IsStepOf, IsWriteOf, before_counts, Reaches, FailsAtOnce, Writes, IsLeftOrBack, ChangesBy, IsEntering, IsWriteOfRecord}
 use Rattle.wb_store.proofs.StaysLemmas.{no_more}
@@ -61,17 +61,6 @@ module _ {S A : Type 0} {g : Ghosts S} {old new : Held S} {r : Result A StoreFau
     err = λ clean inside. if_err {P = FailsToWrite write (state g old) (state g new)} r (λ e failed. inl (write, is, failed)) (one.err clean inside);
     survives = one.survives;
   }
-
--- what stays survives itself
-pub survives_itself : {P : Trees → Type 0} (s : State) → Survives s s P
-survives_itself s = record {
-  clean = omega arith;
-  shield = λ h. h;
-  counts = omega arith;
-  limit = refl;
-  closes = λ clean is_open. inl is_open;
-  crash = λ clean db may. inl may;
-}
 
 module _ {S A : Type 0} {g : Ghosts S} {old : Held S} {Is : OfficeWrite → Type 0} {Fits : StoreFault → Type 0} where
   -- nothing is written where nothing is to be

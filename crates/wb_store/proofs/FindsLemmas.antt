@@ -15,6 +15,7 @@ use Rattle.wb_store.specs.Calls.{LooksUp}
 use Rattle.wb_store.specs.Queries as ask
 use Rattle.wb_store.specs.Queries.{OfficeQuery}
 use Rattle.wb_store.specs.Finds.{StaysAs, FailsToFind, Finds}
+use Rattle.wb_store.specs.MergeLaws.{survives_itself}
 
 -- ---- states that stay
 
@@ -138,18 +139,11 @@ made_after one (Err fault) makes full = lacks_memory one (ap Err full)
 -- nothing is asked
 pub finds_unasked : {S A : Type 0} {g : Ghosts S} {old : Held S} {Answer : Machine → A → Type 0} {x : A}
     → ((machine : Machine) → IsConsistent machine → Answer machine x) → Finds g Answer old old (Ok x)
-finds_unasked is = record {
+finds_unasked {g = g} {old = old} is = record {
   value = λ clean office machine sound stands. is machine sound;
   same = λ clean office. inl refl;
   err = λ clean office is_open. tt;
-  survives = record {
-    clean = omega arith;
-    shield = λ h. h;
-    counts = omega arith;
-    limit = refl;
-    closes = λ clean h. inl h;
-    crash = λ clean db may. inl may;
-  };
+  survives = survives_itself (state g old);
 }
 
 -- ---- look-ups, and then others

@@ -1,5 +1,5 @@
 -- What tests of the office's tables, one after another, promise together, and what they leave of a settled connection.
-use Rattle.std.proofs.Common.{◌≡◌, inl, inr, true, false, ℕ, List, [], ◌∷◌, Result, Ok, Err, Vec, refl, sym, ap, subst, arith}
+use Rattle.std.proofs.Common.{◌≡◌, inl, inr, true, false, ℕ, List, [], ◌∷◌, Result, Ok, Err, Vec, refl, sym, ap, subst}
 use Rattle.std.specs.Bool.{⊤}
 use Rattle.std.specs.FinMap as finite
 use Rattle.std.proofs.lemmas.Bool.{both_ways}
@@ -31,6 +31,7 @@ use Rattle.wb_store.specs.Queries as ask
 use Rattle.wb_store.specs.Queries.{HasAsked, OfficeQuery, table_asked, table_of}
 use Rattle.wb_store.proofs.SettledLemmas.{office_stands}
 use Rattle.wb_store.specs.Finds.{StaysAs}
+use Rattle.wb_store.specs.MergeLaws.{survives_itself}
 use Rattle.wb_store.specs.Opening.{AreCountsOf, Checks, ChecksNoRowsOf, ChecksScratch, ChecksStates, ChecksOver, ChecksWith, FailsOnOffice, HasGoodRowsWith, HasNoRowsLeft, ShowsBuilders}
 use Rattle.wb_store.proofs.FindsLemmas.{stays_then, stays-now}
 use Rattle.wb_store.proofs.OpeningRecordLemmas.{all_kept}
@@ -228,14 +229,7 @@ none_yet g old = record {
   good = λ clean office. tt;
   same = λ clean office. inl refl;
   told = λ clean has machine stands. tt;
-  survives = record {
-    clean = omega arith;
-    shield = λ h. h;
-    counts = omega arith;
-    limit = refl;
-    closes = λ clean h. inl h;
-    crash = λ clean db may. inl may;
-  };
+  survives = survives_itself (state g old);
 }
 
 module _ {S : Type 0} {g : Ghosts S} {Has : Schema → Type 0} {Stands : Machine → Database → Type 0} {old mid : Held S} {Good : Database → Type 0} {Outcome : Machine → Type 0} (one : HasPassed g Has Stands Good Outcome old mid) where
@@ -329,7 +323,7 @@ states_there g old there = record {
   good = λ clean office. there office;
   same = λ clean office. inl refl;
   told = λ clean office machine stands. tt;
-  survives = (none_yet g {Has = HasOffice} {Stands = StandsFor} old).survives;
+  survives = survives_itself (state g old);
 }
 
 -- it is not
@@ -341,7 +335,7 @@ states_missing {g = g} {old = old} none = record {
   kept = λ clean office. tt;
   told = λ clean office machine stands. tt;
   fails = λ clean office. tt;
-  survives = (none_yet g {Has = HasOffice} {Stands = StandsFor} old).survives;
+  survives = survives_itself (state g old);
 }
 
 -- ---- the tests of a whole office

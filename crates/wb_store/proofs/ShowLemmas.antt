@@ -1,5 +1,5 @@
 -- The rows of tables that are shown one table after another.
-use Rattle.std.proofs.Common.{◌≡◌, ℕ, zero, suc, drop, inl, inr, List, [], ◌∷◌, ◌++◌, append_assoc, map, Result, Ok, Err, IfErr, OnOk, Vec, refl, sym, ap, subst, ◌∙◌, arith}
+use Rattle.std.proofs.Common.{◌≡◌, ℕ, zero, suc, drop, inl, inr, List, [], ◌∷◌, ◌++◌, append_assoc, map, Result, Ok, Err, IfErr, OnOk, Vec, refl, sym, ap, subst, ◌∙◌}
 use Rattle.std.specs.List.{AllByRecursion}
 use Rattle.std.proofs.lemmas.List.{append-nil, map-append}
 use Rattle.sqlite_trees.specs.declared.store.Store.{Ghosts}
@@ -17,6 +17,7 @@ use Rattle.wb_rows.specs.Shown.{AreReadableCells, row_of, values_of}
 use Rattle.wb_store.specs.Faults.{IsUnfit}
 use Rattle.wb_store.specs.Finds.{StaysAs}
 use Rattle.wb_store.specs.Lookups.{AreRowsOf, IsQueryFault, ReadsTable}
+use Rattle.wb_store.specs.MergeLaws.{survives_itself}
 use Rattle.wb_store.specs.Merging.{Scratch}
 use Rattle.wb_store.specs.Queries.{IsCurrent, IsTextOfQuery, given_to, table_asked}
 use Rattle.wb_store.specs.Stands.{StandsWith}
@@ -119,14 +120,7 @@ pub all_left : {S : Type 0} (g : Ghosts S) (tables : List Table) (before : List 
 all_left g tables before old = record {
   value = λ clean machine scratch stands. refl;
   same = λ clean office. inl refl;
-  survives = record {
-    clean = omega arith;
-    shield = λ h. h;
-    counts = omega arith;
-    limit = refl;
-    closes = λ clean h. inl h;
-    crash = λ clean db may. inl may;
-  };
+  survives = survives_itself (state g old);
 }
 
 module _ {S : Type 0} {g : Ghosts S} {tables left : List Table} {before shown : List (Table × Row)} {old mid : Held S} (one : HasShown g tables left before shown old mid) where

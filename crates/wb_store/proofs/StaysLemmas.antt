@@ -1,7 +1,6 @@
 -- What look-ups and tests, one after another, leave of a connection that was settled.
-use Rattle.std.proofs.Common.{inl, inr, sym, subst, ◌∙◌, arith}
+use Rattle.std.proofs.Common.{inl, inr, sym, subst, ◌∙◌}
 use Rattle.sqlite_trees.specs.declared.store.Store.{Ghosts}
-use Rattle.sqlite.specs.Tree.{Trees}
 use Rattle.sqlite.specs.Held.{Held, state}
 use Rattle.sqlite.specs.State.{State, HasCleanDisk, IsUnchanged, IsRolledBack, Survives}
 use Rattle.wb_sql.specs.Transactions.{IsKeptOrUndone, LeavesNoMore}
@@ -10,11 +9,8 @@ use Rattle.wb_states.specs.Machine.{Machine}
 use Rattle.wb_store.specs.Settled.{IsBackAt, IsSettled}
 use Rattle.wb_store.proofs.SettledLemmas.{goes_back_again, settled_back, stays_back, stays_settled}
 use Rattle.wb_store.specs.Finds.{StaysAs}
+pub use Rattle.wb_store.specs.MergeLaws.{was_clean}
 use Rattle.wb_store.proofs.FindsLemmas.{unchanged_then}
-
--- a clean disk was clean before
-pub was_clean : {P : Trees → Type 0} (old new : State) → Survives old new P → HasCleanDisk new → HasCleanDisk old
-was_clean old new survives clean = omega (arith, survives.clean, clean)
 
 rolled_back_then : (a b c : State) → IsUnchanged a b → IsRolledBack b c → IsRolledBack a c
 rolled_back_then a b c one two = record {

@@ -38,6 +38,7 @@ use Rattle.deb_text.proofs.KeyLemmas.{pair_cmp-same, pair_cmp_total}
 use Rattle.std.specs.Prelude.{⊤}
 use Rattle.wb_store.specs.Calls.{Changes}
 use Rattle.wb_store.specs.Faults.{answer_on}
+use Rattle.wb_store.specs.MergeLaws.{survives_itself}
 use Rattle.wb_store.specs.Stands.{HoldsRows, StandsFor, arch_rows, builder_rows, office_row, office_row_in}
 use Rattle.wb_store.specs.Settled.{IsFirstOffice}
 use Rattle.wb_store.specs.Upgrading.{FailsToMove, IsBetween, IsInside, IsMoved, IsUpgrading, Moves, with_records, without_records}
@@ -104,14 +105,7 @@ moves_none {g = g} {old = old} follows = record {
     marks = refl;
   };
   err = λ clean inside before. tt;
-  survives = λ clean inside before. record {
-    clean = omega arith;
-    shield = λ h. h;
-    counts = omega arith;
-    limit = refl;
-    closes = λ clean h. inl h;
-    crash = λ clean db may. inl may;
-  };
+  survives = λ clean inside before. survives_itself (state g old);
   was_clean = λ clean. clean;
   limit = refl;
 }

@@ -31,9 +31,21 @@ others_then before mid after one two = record {
 
 -- ---- none, and one after another
 
--- a clean disk was clean before
-was_clean : {P : Trees → Type 0} (old new : State) → Survives old new P → HasCleanDisk new → HasCleanDisk old
-was_clean old new survives clean = omega (arith, survives.clean, clean)
+module _ {P : Trees → Type 0} where
+  -- a clean disk was clean before
+  pub was_clean : (old new : State) → Survives old new P → HasCleanDisk new → HasCleanDisk old
+  was_clean old new survives clean = omega (arith, survives.clean, clean)
+
+  -- what stays survives itself
+  pub survives_itself : (s : State) → Survives s s P
+  survives_itself s = record {
+    clean = omega arith;
+    shield = λ h. h;
+    counts = omega arith;
+    limit = refl;
+    closes = λ clean is_open. inl is_open;
+    crash = λ clean db may. inl may;
+  }
 
 goes_on_then : (a b c : State) → GoesOn a b → GoesOn b c → GoesOn a c
 goes_on_then a b c one two = record {
@@ -42,16 +54,6 @@ goes_on_then a b c one two = record {
   committed = two.committed ∙ one.committed;
   inside = λ inside. two.inside (one.inside inside);
   others = others_then a.now b.now c.now one.others two.others;
-}
-
-survives_itself : {P : Trees → Type 0} (s : State) → Survives s s P
-survives_itself s = record {
-  clean = omega arith;
-  shield = λ h. h;
-  counts = omega arith;
-  limit = refl;
-  closes = λ clean is_open. inl is_open;
-  crash = λ clean db may. inl may;
 }
 
 module _ {S : Type 0} (g : Ghosts S) where
