@@ -25,7 +25,7 @@ pub(crate) fn report_opening(rt: &HostRuntime, file: &str) {
 /// Says that the file of the records is of format 1, whose opening takes long, so that nobody takes it for a hang.
 pub(crate) fn report_first_format(rt: &impl Eprint, file: &str) {
     let _ = eprintln!(rt;
-        "wb: {file} is of format 1: opening it takes about a minute for 10,000 records, and twelve for 35,000"
+        "wb: {file} is of format 1: opening it takes seconds for 10,000 records, and minutes for 35,000"
     );
 }
 
