@@ -12,7 +12,7 @@ use Rattle.deb_control.proofs.ReadLemmas.{lines_in-split}
 at_end : (n len : ℕ) → nat_lt n len ≡ false → len ≤ n
 at_end n len other = grind (arith, nat_tests)
 
-trim-nil : trim [] ≡ []
+pub trim-nil : trim [] ≡ []
 unfolding trim trim_end
 trim-nil = refl
 

@@ -1,25 +1,34 @@
 //! A field of a paragraph, with its continuation lines.
-ghost use Rattle.std.specs.Prelude.{◌≡◌, ◌∷◌, [], true, false, OnOk, OnErr, IfOk, IfNone, IfSome, OnSome, string_bytes};
+ghost use Rattle.std.specs.Prelude.{◌≡◌, ◌∷◌, [], true, false, OnOk, OnErr, IfOk, IfNone, IfSome, OnSome, position, string_bytes};
 ghost use Rattle.std.specs.Iterator.{YieldsFirstRef, item_count};
 ghost use Rattle.std.specs.List.{list_all};
-ghost use Rattle.deb_control.specs.Lines.{is_nonempty};
-ghost use Rattle.deb_control.specs.Fields.{continuations, has_colon, name_of, first_of, is_name_char, is_name, entry, folded_onto, folded_of};
+ghost use Rattle.deb_control.specs.Lines.{is_nonempty, trim};
+ghost use Rattle.deb_control.specs.Fields.{continuations, is_colon, has_colon, name_of, first_of, is_name_char, is_name, entry, folded_onto, folded_of};
 
 use crate::lines::{after_blank, split_text, without_blank_end, without_blanks};
+use memchr::memchr;
 use std::alloc::{AllocError, Global};
 use std::marker::Model;
 
-/// The name and the trimmed first value of a field's line, which stand before
-/// and after its first colon.
+/// The place of the first colon.
+fn colon_place(bytes: &[u8]) -> Option<usize>
+    ensures { result ≡ position is_colon bytes.now }
+{
+    memchr(b':', bytes)
+}
+
+/// The name and the first value of a field's line, which stand before and after its first colon; the value is not trimmed.
 #[tactic(auto, unfolding(crate::specs::Fields::has_colon, crate::specs::Fields::name_of, crate::specs::Fields::first_of))]
 pub(crate) fn colon_parts(line: &str) -> Option<(&str, &str)>
     ensures none { IfNone result (has_colon line.now ≡ false) }
     ensures some { OnSome result (has_colon line.now ≡ true) }
     ensures name { IfSome result (λ parts. parts.0.now ≡ name_of line.now) }
-    ensures first { IfSome result (λ parts. parts.1.now ≡ first_of line.now) }
+    ensures first { IfSome result (λ parts. trim parts.1.now ≡ first_of line.now) }
 {
-    let (name, value) = line.split_once(':')?;
-    Some((name, without_blanks(value)))
+    let Some(at) = colon_place(line.as_bytes()) else {
+        return None;
+    };
+    Some((&line[..at], &line[at + 1..]))
 }
 
 /// Whether each character may stand in a name.
@@ -85,25 +94,27 @@ fn fold_line(text: &mut String, line: &str) -> Result<(), AllocError>
 #[derive(Debug, Drop)]
 pub struct Field<'a> {
     name: &'a str,
-    first: &'a str,
+    /// What stands after the colon, not trimmed.
+    value: &'a str,
     rest: &'a str,
 }
 
 impl<'a> Model for Field<'a> {
+    ghost use Rattle.deb_control.specs.Lines.{trim};
     ghost use Rattle.deb_control.specs.Fields.{FieldText, entry};
 
     ghost Value = { FieldText };
 
-    ghost view = { λ f. entry f.name.now f.first.now f.rest.now };
+    ghost view = { λ f. entry f.name.now (trim f.value.now) f.rest.now };
 }
 
 impl<'a> Field<'a> {
-    /// The field of this name and first value, with the continuation lines
+    /// The field of this name and this first value, which need not be trimmed, with the continuation lines
     /// that `rest` begins with.
-    pub(crate) fn new(name: &'a str, first: &'a str, rest: &'a str) -> Self
-        ensures { result ≡ entry name.now first.now rest.now }
+    pub(crate) fn new(name: &'a str, value: &'a str, rest: &'a str) -> Self
+        ensures { result ≡ entry name.now (trim value.now) rest.now }
     {
-        Field { name, first, rest }
+        Field { name, value, rest }
     }
 
     /// The name as it is written, in ASCII (Debian Policy 5.1).
@@ -118,7 +129,7 @@ impl<'a> Field<'a> {
     pub fn first(&self) -> &'a str
         ensures { result.now ≡ self.now.first }
     {
-        self.first
+        without_blanks(self.value)
     }
 
     /// The continuation lines, each without its first character and without
@@ -149,7 +160,7 @@ impl<'a> Field<'a> {
     {
         Field {
             name: self.name,
-            first: self.first,
+            value: self.value,
             rest: self.rest,
         }
     }

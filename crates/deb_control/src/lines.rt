@@ -28,8 +28,8 @@ pub(crate) fn split_text(text: &str) -> (&str, &str)
     ensures line { result.0.now ≡ before_first is_line_feed text.now }
     ensures rest { result.1.now ≡ after_first is_line_feed text.now }
 {
-    match text.split_once('\n') {
-        Some(parts) => parts,
+    match line_feed_place(text.as_bytes()) {
+        Some(at) => (&text[..at], &text[at + 1..]),
         None => (text, ""),
     }
 }

@@ -18,7 +18,7 @@ fn field_at<'a>(line: &'a str, rest: &'a str) -> Field<'a>
     ensures { result ≡ field_of line.now (lines_in rest.now) }
 {
     match colon_parts(line) {
-        Some((name, first)) => Field::new(name, first, rest),
+        Some((name, value)) => Field::new(name, value, rest),
         None => Field::new(line, "", rest),
     }
 }
@@ -70,7 +70,7 @@ impl OwnedParagraph {
         let Ok(text) = String::from_utf8(bytes) else {
             return Err(ControlFaultKind::NotUtf8);
         };
-        drop(Paragraph::read(alloc, text.as_bytes())?);
+        drop(Paragraph::of_text(alloc, text.as_str())?);
         Ok(OwnedParagraph { text })
     }
 

@@ -1,12 +1,12 @@
 //! A paragraph: its fields, and how they are read.
-ghost use Rattle.std.specs.Prelude.{◌≡◌, ◌≢◌, ◌++◌, ◌∷◌, [], Some, None, Ok, Err, true, false, not, drop, take, IfOk, IfErr, OnOk, option_copied, string_bytes};
+ghost use Rattle.std.specs.Prelude.{◌≡◌, ◌≢◌, ◌≤◌, ◌++◌, ◌∷◌, [], length, Some, None, Ok, Err, true, false, not, drop, take, IfOk, IfErr, OnOk, option_copied, string_bytes};
 ghost use Rattle.std.specs.Bool.{OnTrue};
 ghost use Rattle.std.specs.List.{list_any};
 ghost use Rattle.std.specs.BTreeSet.{contains_text};
 ghost use Rattle.deb_control.specs.declared.fault.ControlFaultKind.TheVariants.{Memory};
 ghost use Rattle.deb_control.specs.Lines.{is_continuation, lines_of, lines_in};
 ghost use Rattle.std.specs.Str.{str_eq_ignore_ascii_case, str_to_ascii_lowercase};
-ghost use Rattle.deb_control.specs.Fields.{has_name, is_among, names_in, IsNameSet, fields_at, line_fault, name_of, first_fault, fields_of, field_named, reading_of, begin_with_field, takes_memory};
+ghost use Rattle.deb_control.specs.Fields.{has_name, is_among, names_in, IsNameSet, fields_at, line_fault, name_of, first_fault, fields_of, field_named, reading_of, begin_with_field, paragraph_limit, takes_memory};
 
 use crate::ControlFaultKind;
 use crate::field::{Field, colon_parts, is_name};
@@ -98,7 +98,7 @@ fn read_line<'a>(
         }
         return Ok(());
     }
-    let Some((name, first)) = colon_parts(line) else {
+    let Some((name, value)) = colon_parts(line) else {
         return Err(ControlFaultKind::NoColon);
     };
     if !is_name(name) {
@@ -107,7 +107,7 @@ fn read_line<'a>(
     if !add_name(alloc, fields, later, name)? {
         return Err(ControlFaultKind::Duplicate);
     }
-    fields.push(Field::new(name, first, rest))?;
+    fields.push(Field::new(name, value, rest))?;
     Ok(())
 }
 
@@ -162,6 +162,18 @@ impl<'a> Paragraph<'a> {
         let Ok(text) = str::from_utf8(bytes) else {
             return Err(ControlFaultKind::NotUtf8);
         };
+        Paragraph::of_text(alloc, text)
+    }
+
+    /// Reads the lines of a paragraph that is small enough.
+    pub(crate) fn of_text(alloc: Global, text: &'a str) -> Result<Self, ControlFaultKind>
+        requires { length text.now ≤ paragraph_limit }
+        ensures ok { IfOk result (λ paragraph. reading_of (lines_of text.now) ≡ Ok paragraph) }
+        ensures refused { IfErr result (λ kind. kind ≢ Memory →
+            reading_of (lines_of text.now) ≡ Err kind) }
+        ensures memory { IfErr result (λ kind. kind ≡ Memory →
+            takes_memory (lines_of text.now) ≡ true) }
+    {
         let fields = read_fields(alloc, text)?;
         Ok(Paragraph { fields })
     }

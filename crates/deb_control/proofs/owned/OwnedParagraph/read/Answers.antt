@@ -19,12 +19,12 @@ pub returns-clause-ok : goal.returns-clause-ok
 returns-clause-ok c =
     let same : string_bytes c.in-Ok.text ≡ c.args.bytes.items = ap (λ (v : Vec ℕ Global). v.items) c.in-Ok.ensures.ok in
     ap (λ (v : List ℕ). reading_of (lines_of v)) (sym same)
-    ∙ reading_of-own (string_bytes c.in-Ok.text) c.in_ok-read.field-0 (ap (λ (v : List ℕ). reading_of (lines_of v)) (sym c.as_bytes.ensures.value) ∙ c.in_ok-read.ensures.ok)
+    ∙ reading_of-own (string_bytes c.in-Ok.text) c.in_ok-of_text.field-0 (ap (λ (v : List ℕ). reading_of (lines_of v)) (sym c.as_str.ensures.value) ∙ c.in_ok-of_text.ensures.ok)
 
-pub returns-in_err-read-clause-of_text : goal.returns-in_err-read-clause-of_text
-returns-in_err-read-clause-of_text c =
+pub returns-in_err-of_text-clause-of_text : goal.returns-in_err-of_text-clause-of_text
+returns-in_err-of_text-clause-of_text c =
     let p = err_from_is_err_and c.from_residual.result c.from_residual.ensures.1 in
     rw (p.1, p.2) (
-      no-Read (lines_of c.as_bytes.result.now) c.in_err-read.field-0.0 c.in_err-read.ensures.refused,
-      no-Ended (lines_of c.as_bytes.result.now) c.in_err-read.field-0.0 c.in_err-read.ensures.refused,
+      no-Read (lines_of c.as_str.result.now) c.in_err-of_text.field-0.0 c.in_err-of_text.ensures.refused,
+      no-Ended (lines_of c.as_str.result.now) c.in_err-of_text.field-0.0 c.in_err-of_text.ensures.refused,
     )

@@ -1,6 +1,4 @@
-use Rattle.std.proofs.lemmas.Result.{err_from_is_err_and}
-use Rattle.deb_control.proofs.ReadLemmas.{reading_of-large, reading_of-not_utf8, reading_of-fault, reading_of-fields}
-use Rattle.deb_control.proofs.RoomLemmas.{takes_memory-of}
+use Rattle.deb_control.proofs.ReadLemmas.{reading_of-large, reading_of-not_utf8}
 use Rattle.deb_control.proofs.paragraph.Paragraph.read.Goals as goal
 
 pub returns-then-bytes-gt-PARAGRAPH_LIMIT-clause-refused : goal.returns-then-bytes-gt-PARAGRAPH_LIMIT-clause-refused
@@ -8,20 +6,3 @@ returns-then-bytes-gt-PARAGRAPH_LIMIT-clause-refused c = λ _. reading_of-large 
 
 pub returns-in_default-clause-refused : goal.returns-in_default-clause-refused
 returns-in_default-clause-refused c = λ _. reading_of-not_utf8 c.args.bytes.now c.if-bytes-gt-PARAGRAPH_LIMIT.false c.in_default.ensures.cases.0
-
-pub returns-in_err-fields-clause-refused : goal.returns-in_err-fields-clause-refused
-returns-in_err-fields-clause-refused c =
-    let p = err_from_is_err_and c.from_residual.result c.from_residual.ensures.1 in
-    rw (p.1, p.2) (λ other.
-    reading_of-fault c.args.bytes.now c.in-Ok.text.now c.in_err-fields.field-0.0 c.if-bytes-gt-PARAGRAPH_LIMIT.false c.in-Ok.ensures.cases (c.in_err-fields.ensures.refused other))
-
-pub returns-in_err-fields-clause-memory : goal.returns-in_err-fields-clause-memory
-returns-in_err-fields-clause-memory c =
-    let p = err_from_is_err_and c.from_residual.result c.from_residual.ensures.1 in
-    rw (p.1, p.2) (λ memory.
-    takes_memory-of c.args.bytes.now c.in-Ok.text.now c.if-bytes-gt-PARAGRAPH_LIMIT.false c.in-Ok.ensures.cases (c.in_err-fields.ensures.memory memory))
-
-pub returns-clause-ok : goal.returns-clause-ok
-returns-clause-ok c =
-    reading_of-fields c.args.bytes.now c.in-Ok.text.now c.in_ok-fields.fields.items c.if-bytes-gt-PARAGRAPH_LIMIT.false c.in-Ok.ensures.cases
-    c.in_ok-fields.ensures.ok c.in_ok-fields.ensures.fields
