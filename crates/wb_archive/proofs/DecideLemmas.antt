@@ -7,6 +7,9 @@ use Rattle.std.specs.FinMap as finite
 use Rattle.std.proofs.lemmas.List.{drop_all}
 use Rattle.std.proofs.lemmas.List.Folds.{list_any-append}
 use Rattle.std.proofs.lemmas.Cmp.{nat_list_eq_equiv}
+use Rattle.std.proofs.lemmas.Slice.Eq.{bytes_eq-Decides}
+use Rattle.std.proofs.lemmas.Bool.Decides.{same_from_decides}
+use Rattle.deb_relations.specs.Satisfaction.{is_among}
 use Rattle.deb_relations.specs.declared.arch.ArchWords.{ArchWords}
 use Rattle.deb_text.specs.Text.{pair_cmp}
 use Rattle.deb_text.proofs.KeyLemmas.{pair_cmp_total, pair_cmp-same}
@@ -135,55 +138,25 @@ with-covers arch now names of name e =
     split true b e = absurd cc
     split false b e = (refl, e)
 
--- the names so far, while these are left to be looked up
-pub record IsHalfNamed (now : Contents) (arch : List ℕ) (names left : List (List ℕ)) : Type 0 where
-  pub listed : List (List ℕ)
-  pub of_rows : AreNamesOf now.sources listed
-  pub is : names ++ filter (λ name. not (finite.contains_key now.machine.records (arch, name))) left ≡ names_with now.machine.records arch listed
+bytes_eq-turned : (s t : List ℕ) → bytes_eq s t ≡ bytes_eq t s
+bytes_eq-turned s t =
+    let turned = bytes_eq-Decides t s in
+    same_from_decides (bytes_eq s t) (bytes_eq t s) (bytes_eq-Decides s t) (λ e. sym (turned.0 e), λ e. turned.1 (sym e))
 
-pub named-start : (now : Contents) (arch : List ℕ) (names left listed : List (List ℕ)) → names ≡ recorded_names now.machine.records arch → left ≡ listed → AreNamesOf now.sources listed
-    → IsHalfNamed now arch names left
-named-start now arch names left listed is same of = record {
+-- the names that are decided, where the set is that of those that have a record
+pub named-to-decide : (now : Contents) (arch : List ℕ) (recorded listed names : List (List ℕ)) (known : List ℕ → Bool)
+    → recorded ≡ recorded_names now.machine.records arch → AreNamesOf now.sources listed → ((name : List ℕ) → known name ≡ is_among name recorded)
+    → names ≡ recorded ++ filter (λ name. not (known name)) listed → AreNamesToDecide now arch names
+named-to-decide now arch recorded listed names known is of knows made = record {
   listed = listed;
   of_rows = of;
-  is = λ i. is i ++ filter (λ name. not (finite.contains_key now.machine.records (arch, name))) (same i);
-}
-
-one-name : (p : List ℕ → Bool) (names later : List (List ℕ)) (name : List ℕ) (has : Bool) → p name ≡ not has
-    → (names ++ cond has [] (name ∷ [])) ++ filter p later ≡ names ++ filter p (name ∷ later)
-one-name p names later name has e =
-    append_assoc names (cond has [] (name ∷ [])) (filter p later)
-    ∙ ap (λ (l : List (List ℕ)). names ++ l) (at has ∙ ap (λ b. cond b (name ∷ filter p later) (filter p later)) (sym e))
-  where
-    at : (b : Bool) → cond b [] (name ∷ []) ++ filter p later ≡ cond (not b) (name ∷ filter p later) (filter p later)
-    at true = refl
-    at false = refl
-
-pub named-step : (now : Contents) (arch : List ℕ) (names made items : List (List ℕ)) (at : ℕ) (name : List ℕ) (has : Bool) → at < length items → name ≡ get_or items at name
-    → has ≡ finite.contains_key now.machine.records (arch, name) → made ≡ names ++ cond has [] (name ∷ []) → IsHalfNamed now arch names (drop at items)
-    → IsHalfNamed now arch made (drop (at + 1) items)
-named-step now arch names made items at name has lt is known e half =
-    let p : List ℕ → Bool = λ n. not (finite.contains_key now.machine.records (arch, n)) in
-    let left : drop at items ≡ name ∷ drop (at + 1) items = drop-cons items at name lt ∙ (λ i. sym is i ∷ drop (one_after at i) items) in
-    record {
-      listed = half.listed;
-      of_rows = half.of_rows;
-      is = ap (λ (l : List (List ℕ)). l ++ filter p (drop (at + 1) items)) e
-          ∙ one-name p names (drop (at + 1) items) name has (ap not (sym known))
-          ∙ ap (λ (l : List (List ℕ)). names ++ filter p l) (sym left)
-          ∙ half.is;
-    }
-  where
-    one_after : (n : ℕ) → suc n ≡ n + 1
-    one_after n = omega arith
-
-pub named-done : (now : Contents) (arch : List ℕ) (names items : List (List ℕ)) (at : ℕ) → length items ≤ at → IsHalfNamed now arch names (drop at items)
-    → AreNamesToDecide now arch names
-named-done now arch names items at le half = record {
-  listed = half.listed;
-  of_rows = half.of_rows;
-  is = sym (append-nil names) ∙ ap (λ (l : List (List ℕ)). names ++ filter (λ name. not (finite.contains_key now.machine.records (arch, name))) l) (sym (drop_all at items le)) ∙ half.is;
-}
+  is = made ∙ (λ i. is i ++ filter (λ name. not (known-recorded name i)) listed);
+} where
+  known-recorded : (name : List ℕ) → known name ≡ finite.contains_key now.machine.records (arch, name)
+  known-recorded name =
+      knows name ∙ ap (λ (names : List (List ℕ)). is_among name names) is
+      ∙ (λ i. list_any (λ other. bytes_eq-turned other name i) (recorded_names now.machine.records arch))
+      ∙ recorded-names-any now.machine.records arch name
 
 -- ---- the start
 

@@ -1,8 +1,11 @@
 //! The records of an architecture, brought in line with what the tables have of the archive's lists.
-ghost use Rattle.std.specs.Prelude.{◌≡◌, ◌++◌, ◌∷◌, [], Some, None, IfOk, IfErr, IfSome, OnOk, if◌then◌else◌};
+ghost use Rattle.std.specs.Prelude.{◌≡◌, ◌++◌, ℕ, not, filter, List, Some, None, IfOk, IfErr, IfSome, OnOk};
 ghost use Rattle.std.specs.FinMap as finite;
+ghost use Rattle.std.specs.BTreeSet.{contains};
 ghost use Rattle.std.specs.Option.{option_map};
 ghost use Rattle.std.specs.Map.Iter.{deref};
+ghost use Rattle.deb_relations.specs.Satisfaction.{is_among};
+ghost use Rattle.deb_text.specs.Text.{text_cmp};
 ghost use Rattle.wb_merge.specs.Merged.{change_of, merge_counts, merged};
 ghost use Rattle.wb_merge.specs.Steps.{record_at};
 ghost use Rattle.wb_archive.specs.Decides.{AreNamesToDecide, listing_at, record_decided, set_record};
@@ -11,10 +14,12 @@ ghost use Rattle.wb_archive.specs.Tables.{HasFittingTake, Tables, with_records};
 
 use crate::MergeTables;
 use crate::fault::{MergeFault, asked};
+use crate::waited::add_names;
 use crate::waits::is_met;
 use deb_relations::ArchWords;
 use deb_text::Text;
 use std::alloc::{AllocError, Global};
+use std::collections::BTreeSet;
 use wb_merge::{Change, after_found, counted};
 use wb_states::{MergeCounts, Record};
 
@@ -34,34 +39,35 @@ fn record_of<T: MergeTables>(
     asked(tables.record(arch, name))
 }
 
-/// Whether the source package has a record on the architecture.
-fn has_record<T: MergeTables>(
-    tables: &mut T,
-    arch: &Text,
-    name: &Text,
-) -> Result<bool, MergeFault<T::Fault>>
-    ensures value { (at : Tables) → T.is_clean tables.new → T.holds tables.old at
-        → IfOk result (λ has. has ≡ finite.contains_key at.now.machine.records (arch.now, name.now)) }
-    ensures same { (at : Tables) → T.is_clean tables.new → T.holds tables.old at → OnOk result (T.holds tables.new at) }
-    ensures follows { OnOk result (T.follows tables.old tables.new) }
-    ensures stops { IfErr result (StopsAs T.follows T.fails tables.old tables.new) }
+/// Exactly these names, as a set.
+fn name_set(alloc: Global, names: &[Text]) -> Result<BTreeSet<Text>, AllocError>
+    ensures value { IfOk result (λ known. (name : List ℕ) → contains text_cmp known name ≡ is_among name names.now) }
 {
-    let found = record_of(tables, arch, name)?;
-    Ok(found.is_some())
+    let mut known = BTreeSet::new(alloc);
+    add_names(&mut known, names)?;
+    Ok(known)
 }
 
-/// Adds a copy of the name, unless it has a record.
-fn add_unless(names: &mut Vec<Text>, name: &Text, has_record: bool) -> Result<(), AllocError>
-    ensures value { OnOk result (names.new.items ≡ names.old.items ++ (if has_record then [] else name.now ∷ [])) }
+/// Adds copies of the names that are not in the set, in their order.
+fn add_others(
+    names: &mut Vec<Text>,
+    known: &BTreeSet<Text>,
+    listed: &[Text],
+) -> Result<(), AllocError>
+    ensures value { OnOk result (names.new.items
+        ≡ names.old.items ++ filter (λ name. not (contains text_cmp known.now name)) listed.now) }
 {
-    if !has_record {
-        names.push(name.clone()?)?;
+    for name in listed {
+        if !known.contains(name) {
+            names.push(name.clone()?)?;
+        }
     }
     Ok(())
 }
 
 /// The source packages of the architecture that have a record, then those of which there are rows and no record.
 fn names_to_decide<T: MergeTables>(
+    alloc: Global,
     tables: &mut T,
     arch: &Text,
 ) -> Result<Vec<Text>, MergeFault<T::Fault>>
@@ -73,10 +79,8 @@ fn names_to_decide<T: MergeTables>(
 {
     let mut names = asked(tables.recorded_names(arch))?;
     let listed = asked(tables.listed_names())?;
-    for name in &listed {
-        let has_record = has_record(tables, arch, name)?;
-        add_unless(&mut names, name, has_record)?;
-    }
+    let recorded = name_set(alloc, &names)?;
+    add_others(&mut names, &recorded, &listed)?;
     Ok(names)
 }
 
@@ -210,7 +214,7 @@ pub fn decide<T: MergeTables>(
     ensures follows { OnOk result (T.follows tables.old tables.new) }
     ensures stops { IfErr result (StopsAs T.follows T.fails tables.old tables.new) }
 {
-    let names = names_to_decide(tables, &arch.name)?;
+    let names = names_to_decide(alloc, tables, &arch.name)?;
     let mut counts = MergeCounts {
         added: 0,
         changed: 0,

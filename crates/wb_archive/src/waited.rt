@@ -17,8 +17,8 @@ use std::alloc::{AllocError, Global};
 use std::collections::BTreeSet;
 use wb_states::KeyedRecord;
 
-/// Adds these names to those that are waited for.
-fn add_names(waited: &mut BTreeSet<Text>, names: &[Text]) -> Result<(), AllocError>
+/// Adds these names to others.
+pub(crate) fn add_names(waited: &mut BTreeSet<Text>, names: &[Text]) -> Result<(), AllocError>
     ensures value { OnOk result ((name : List ℕ) → contains text_cmp waited.new name
         ≡ (is_among name names.now || contains text_cmp waited.old name)) }
 {
