@@ -1,9 +1,9 @@
 -- A list that is read into a table, paragraph by paragraph.
-use Rattle.std.proofs.Common.{◌≡◌, ℕ, ◌+◌, ◌<◌, Bool, true, false, cond, List, [], ◌∷◌, ◌++◌, filter, Option, None, Some, Result, Ok, Err, refl, sym, ap, subst, ◌∙◌, inl, inr, append-nil, arith}
+use Rattle.std.proofs.Common.{◌≡◌, ℕ, ◌+◌, ◌<◌, Bool, true, false, cond, List, [], ◌∷◌, ◌++◌, filter, Option, None, Some, Result, Ok, Err, refl, sym, ap, subst, ◌∙◌, inl, inr, append-nil, append_assoc, arith}
 use Rattle.std.specs.Prelude.{IfSome}
 use Rattle.std.specs.List.{AllByRecursion}
 use Rattle.std.specs.Result.{result_map_both}
-use Rattle.std.proofs.lemmas.List.Elements.{filter-append, filter_map-append}
+use Rattle.std.proofs.lemmas.List.Elements.{filter-append}
 use Rattle.deb_control.specs.declared.fault.ControlFault.{ControlFault}
 use Rattle.deb_control.specs.Fields.{FieldText}
 use Rattle.deb_control.specs.Paragraphs.{ReaderState}
@@ -13,9 +13,8 @@ use Rattle.wb_states.specs.declared.refusal.ListKind.{ListKind}
 use Rattle.wb_states.specs.declared.scratch.SourceRow.{SourceRow}
 use Rattle.wb_states.specs.declared.scratch.BinaryRow.{BinaryRow}
 use Rattle.wb_merge.specs.Rows.{onto_rows}
-use Rattle.wb_merge.specs.Scratch.{present}
 use Rattle.wb_archive.specs.declared.fault.BadList.{BadList}
-use Rattle.wb_archive.specs.Fills.{WithRows, binaries_wanted, is_binary_wanted, is_source_wanted, sources_wanted}
+use Rattle.wb_archive.specs.Fills.{WithRows, binaries_behind, binary_kept, is_binary_kept, is_source_wanted, last_behind, last_kept, sources_wanted}
 use Rattle.wb_archive.specs.Reads.{GivesRow, IsRefused, MayStandWhere, ReadsTo, kept_at}
 use Rattle.wb_archive.specs.Tables.{IsAfterBinaries}
 use Rattle.wb_archive.proofs.ReadLemmas.{kept-fields}
@@ -54,7 +53,7 @@ reads-kept which row_at (row ∷ rows) place after (fields, (next, (steps, (is, 
     ∙ onto-row rows row (kept_at which row_at after)
 
 -- paragraphs that were read, and then others
-reads-then : {X : Type 0} (row_at : ℕ → List FieldText → Result X Refusal) (rows later : List X) (place middle after : ReaderState) → ReadsTo row_at rows place middle
+pub reads-then : {X : Type 0} (row_at : ℕ → List FieldText → Result X Refusal) (rows later : List X) (place middle after : ReaderState) → ReadsTo row_at rows place middle
     → ReadsTo row_at later middle after → ReadsTo row_at (rows ++ later) place after
 reads-then row_at [] later place middle after one two = subst (λ (p : ReaderState). ReadsTo row_at later p after) one two
 reads-then row_at (row ∷ rows) later place middle after (fields, (next, (steps, (is, reads)))) two =
@@ -71,7 +70,7 @@ pub record IsHalfFilled {R X Y : Type 0} (MayStand : R → ReaderState → Type 
 
 module _ {R X Y : Type 0} (MayStand : R → ReaderState → Type 0) (row_at : ℕ → List FieldText → Result X Refusal) (wanted : List X → List Y) (number : Y → ℕ) where
   -- before the first paragraph
-  pub half-start : (Holds : List Y → Type 0) (start : R) (counted : ℕ) → counted ≡ 0 → wanted [] ≡ [] → Holds []
+  abbrev pub half-start : (Holds : List Y → Type 0) (start : R) (counted : ℕ) → counted ≡ 0 → wanted [] ≡ [] → Holds []
       → IsHalfFilled MayStand row_at wanted number Holds start start counted 0
   half-start Holds start counted first none holds = record {
     count = sym first;
@@ -82,12 +81,12 @@ module _ {R X Y : Type 0} (MayStand : R → ReaderState → Type 0) (row_at : �
   }
 
   -- one paragraph more
-  pub half-step : {Holds More : List Y → Type 0} (start list next : R) (counted more_counted passed : ℕ)
-      → (half : IsHalfFilled MayStand row_at wanted number Holds start list counted passed) (x : X)
-      → GivesRow MayStand row_at list x next → more_counted ≡ counted + 1 → wanted (half.done ++ x ∷ []) ≡ wanted half.done ++ wanted (x ∷ [])
-      → More (wanted half.done ++ wanted (x ∷ [])) → AllByRecursion (λ row. number row ≡ passed + 1) (wanted (x ∷ []))
+  abbrev pub half-step : {Holds More : List Y → Type 0} (start list next : R) (counted more_counted passed : ℕ)
+      → (half : IsHalfFilled MayStand row_at wanted number Holds start list counted passed) (x : X) (added : List Y)
+      → GivesRow MayStand row_at list x next → more_counted ≡ counted + 1 → wanted (half.done ++ x ∷ []) ≡ wanted half.done ++ added
+      → More (wanted half.done ++ added) → AllByRecursion (λ row. number row ≡ passed + 1) added
       → IsHalfFilled MayStand row_at wanted number More start next more_counted (passed + 1)
-  half-step {More = More} start list next counted more_counted passed half x gives one split more numbered = record {
+  half-step {More = More} start list next counted more_counted passed half x added gives one split more numbered = record {
     count = ap (λ n. n + 1) half.count ∙ sym one;
     done = half.done ++ x ∷ [];
     reads = λ after here.
@@ -96,9 +95,9 @@ module _ {R X Y : Type 0} (MayStand : R → ReaderState → Type 0) (row_at : �
         (before.0, (before.1.0, reads-then row_at half.done (x ∷ []) before.0 middle.0 after before.1.1 middle.1.1));
     holds = subst More (sym split) more;
     below = subst (AllByRecursion (λ row. number row < passed + 1 + 1)) (sym split)
-        (all-append (λ row. number row < passed + 1 + 1) (wanted half.done) (wanted (x ∷ []))
+        (all-append (λ row. number row < passed + 1 + 1) (wanted half.done) added
         (all-weaken (λ row. number row < passed + 1) (λ row. number row < passed + 1 + 1) (λ row lt. omega arith) (wanted half.done) half.below)
-        (all-weaken (λ row. number row ≡ passed + 1) (λ row. number row < passed + 1 + 1) (λ row e. omega arith) (wanted (x ∷ [])) numbered));
+        (all-weaken (λ row. number row ≡ passed + 1) (λ row. number row < passed + 1 + 1) (λ row e. omega arith) added numbered));
   }
 
   -- after the last paragraph
@@ -136,9 +135,17 @@ module _ {R X Y : Type 0} (MayStand : R → ReaderState → Type 0) (row_at : �
 pub sources-split : (archs : List ArchWords) (xs ys : List SourceRow) → sources_wanted archs (xs ++ ys) ≡ sources_wanted archs xs ++ sources_wanted archs ys
 sources-split archs xs ys = filter-append (is_source_wanted archs) xs ys
 
-pub binaries-split : (waited : List ℕ → Bool) (xs ys : List (Option BinaryRow)) → binaries_wanted waited (xs ++ ys) ≡ binaries_wanted waited xs ++ binaries_wanted waited ys
-binaries-split waited xs ys =
-    ap (filter (is_binary_wanted waited)) (filter_map-append (λ (row : Option BinaryRow). row) xs ys) ∙ filter-append (is_binary_wanted waited) (present xs) (present ys)
+pub binaries-split : (waited : List ℕ → Bool) (last : Option BinaryRow) (rows : List (Option BinaryRow)) (row : Option BinaryRow)
+    → binaries_behind waited last (rows ++ row ∷ []) ≡ binaries_behind waited last rows ++ binary_kept waited (last_behind waited last rows) row
+binaries-split waited last [] row = append-nil (binary_kept waited last row)
+binaries-split waited last (first ∷ rows) row =
+    ap (λ (l : List BinaryRow). binary_kept waited last first ++ l) (binaries-split waited (last_kept waited last first) rows row)
+    ∙ sym (append_assoc (binary_kept waited last first) _ _)
+
+pub last-split : (waited : List ℕ → Bool) (last : Option BinaryRow) (rows : List (Option BinaryRow)) (row : Option BinaryRow)
+    → last_behind waited last (rows ++ row ∷ []) ≡ last_kept waited (last_behind waited last rows) row
+last-split waited last [] row = refl
+last-split waited last (first ∷ rows) row = last-split waited (last_kept waited last first) rows row
 
 filter-one : {X : Type 0} (P : X → Type 0) (test : X → Bool) (x : X) → P x → AllByRecursion P (filter test (x ∷ []))
 filter-one P test x h = elim (test x) as (λ b. AllByRecursion P (cond b (x ∷ []) [])) [ true ↦ (h, tt) | false ↦ tt ]
@@ -146,10 +153,10 @@ filter-one P test x h = elim (test x) as (λ b. AllByRecursion P (cond b (x ∷ 
 pub source-numbered : (archs : List ArchWords) (n : ℕ) (row : SourceRow) → row.seq ≡ n → AllByRecursion (λ (row : SourceRow). row.seq ≡ n) (sources_wanted archs (row ∷ []))
 source-numbered archs n row e = filter-one (λ (row : SourceRow). row.seq ≡ n) (is_source_wanted archs) row e
 
-pub binary-numbered : (waited : List ℕ → Bool) (n : ℕ) (row : Option BinaryRow) → IfSome row (λ row. row.seq ≡ n)
-    → AllByRecursion (λ (row : BinaryRow). row.seq ≡ n) (binaries_wanted waited (row ∷ []))
-binary-numbered waited n None e = tt
-binary-numbered waited n (Some row) e = filter-one (λ (row : BinaryRow). row.seq ≡ n) (is_binary_wanted waited) row e
+pub binary-numbered : (waited : List ℕ → Bool) (n : ℕ) (last row : Option BinaryRow) → IfSome row (λ row. row.seq ≡ n)
+    → AllByRecursion (λ (row : BinaryRow). row.seq ≡ n) (binary_kept waited last row)
+binary-numbered waited n last None e = tt
+binary-numbered waited n last (Some row) e = filter-one (λ (row : BinaryRow). row.seq ≡ n) (is_binary_kept waited last) row e
 
 -- a row whose number is the next comes after all that are kept
 pub binary-after : (n : ℕ) (row : Option BinaryRow) (rows : List BinaryRow) → IfSome row (λ row. row.seq ≡ n) → AllByRecursion (λ (row : BinaryRow). row.seq < n) rows

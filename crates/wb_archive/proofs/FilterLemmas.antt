@@ -1,8 +1,9 @@
 -- Rows that cannot matter to a merge change nothing of it.
-use Rattle.std.proofs.Common.{◌≡◌, ℕ, Bool, true, false, cond, not, ◌||◌, ◌&&◌, List, [], ◌∷◌, ◌++◌, length, filter, bytes_eq, Option, Some, None, Result, Ok, Err, refl, sym, ap, subst, ◌∙◌, inl, inr}
-use Rattle.std.specs.Prelude.{IfSome}
+use Rattle.std.proofs.Common.{◌≡◌, ℕ, Bool, true, false, cond, not, ◌||◌, ◌&&◌, List, [], ◌∷◌, ◌++◌, length, filter, map, bytes_eq, Option, Some, None, Result, Ok, Err, refl, sym, ap, subst, ◌∙◌, inl, inr, arith}
+use Rattle.std.specs.Prelude.{◌==◌, IfSome}
 use Rattle.std.specs.List.{AllByRecursion, list_any}
 use Rattle.std.specs.FinMap as finite
+use Rattle.std.proofs.lemmas.Bool.Decides.{nat_tests}
 use Rattle.std.proofs.lemmas.Cmp.{nat_list_eq_equiv}
 use Rattle.deb_relations.specs.declared.arch.ArchWords.{ArchWords}
 use Rattle.deb_relations.specs.declared.fault.RelationFault.{RelationFault}
@@ -19,16 +20,17 @@ use Rattle.wb_states.specs.State.{is_dep_wait}
 use Rattle.wb_merge.specs.declared.listing.Listed.{Listed}
 use Rattle.wb_merge.specs.declared.listing.Built.{Built}
 use Rattle.wb_merge.specs.declared.merge.Change.{Change}
-use Rattle.wb_merge.specs.Listing.{ArchiveListing, is_candidate, is_listed}
+use Rattle.std.specs.Ordering.{is_gt}
+use Rattle.wb_merge.specs.Listing.{ArchiveListing, best_from, better, built_cmp, is_candidate, is_listed}
 use Rattle.wb_merge.specs.Merge.{are_waits_met, is_reading_met, record_after}
 use Rattle.wb_merge.specs.Merged.{Records, change_of, counts_over, is_added, is_changed, is_kept, is_removed, merge_counts, merged, names_of as names_merged, number_where, record_after_at, record_after_named, recorded_names}
-use Rattle.wb_merge.specs.Scratch.{is_build_of, listing_of_kept, row_of_kept}
+use Rattle.wb_merge.specs.Scratch.{build_of, built_in, is_build_of, listing_of_kept, present, row_of_kept, versions_in}
 use Rattle.wb_merge.specs.Steps.{Key}
 use Rattle.wb_merge.proofs.FoundLemmas.{record-given}
 use Rattle.wb_merge.proofs.MergeLemmas.{merged-get}
 use Rattle.wb_merge.proofs.NameLemmas.{bytes_eq-is}
-use Rattle.wb_merge.proofs.ScratchLemmas.{built-kept, built_in-filter, listed-kept, listed_in-filter, versions-kept, versions_in-filter}
-use Rattle.wb_archive.specs.Fills.{is_binary_wanted, is_source_wanted}
+use Rattle.wb_merge.proofs.ScratchLemmas.{built-kept, listed-kept, listed_in-filter, versions-kept}
+use Rattle.wb_archive.specs.Fills.{binaries_behind, binaries_wanted, is_binary_kept, is_repeat, is_same_build, is_source_wanted}
 use Rattle.wb_archive.specs.Waited.{AreAllWaitedFor, AreWaitedFor}
 
 -- ---- what is wanted
@@ -50,12 +52,6 @@ candidate-wanted : (arch : ArchWords) (archs : List ArchWords) → IsIn arch arc
     → is_candidate arch name (row_of_kept row) ≡ true → is_source_wanted archs row ≡ true
 unfolding is_candidate
 candidate-wanted arch archs there name row e = any-in (λ a. is_listed a (row_of_kept row)) arch archs there (and-right (bytes_eq name row.name) _ e)
-
-build-wanted : (waited : List ℕ → Bool) (name : List ℕ) (row : BinaryRow) → is_build_of name row ≡ true → is_binary_wanted waited row ≡ true
-build-wanted waited name row e = ap (λ b. b || waited row.name) (and-right (bytes_eq name row.source) row.own e)
-
-named-wanted : (waited : List ℕ → Bool) (name : List ℕ) → waited name ≡ true → (row : BinaryRow) → bytes_eq name row.name ≡ true → is_binary_wanted waited row ≡ true
-named-wanted waited name e row is = or-right row.own (waited row.name) (ap waited (sym (bytes_eq-is name row.name is)) ∙ e)
 
 -- ---- listings that differ in what is available alone
 
@@ -127,38 +123,160 @@ module _ (records : Records) (arch : List ℕ) (one other : ArchiveListing) (ali
     removed = number-same is_removed i;
   }
 
+-- ---- rows that only repeat others
+
+and-left : (a b : Bool) → (a && b) ≡ true → a ≡ true
+and-left true b e = refl
+and-left false b e = absurd cc
+
+apart : false ≡ true → ⊥
+apart e = cc
+
+cond-same : {X : Type 0} (b : Bool) (x : X) → cond b x x ≡ x
+cond-same true x = refl
+cond-same false x = refl
+
+-- a build that is offered twice is taken once
+better-again : (best : Option Built) (build : Built) → better built_cmp (Some (better built_cmp best build)) build ≡ better built_cmp best build
+better-again None build = cond-same (is_gt (built_cmp build build)) build
+better-again (Some best) build = go (is_gt (built_cmp build best)) refl where
+  go : (g : Bool) → is_gt (built_cmp build best) ≡ g → better built_cmp (Some (cond g build best)) build ≡ cond g build best
+  go true e = cond-same (is_gt (built_cmp build build)) build
+  go false e = ap (λ t. cond t build best) e
+
+-- the best so far is no less than a row, if that is a build of the source package
+abbrev IsCovered : List ℕ → Option Built → Option BinaryRow → Type 0
+IsCovered name best last = IfSome last (λ row. is_build_of name row ≡ true → Some (better built_cmp best (build_of row)) ≡ best)
+
+same-number : (m n : ℕ) → (m == n) ≡ true → m ≡ n
+same-number m n e = grind (arith, nat_tests)
+
+repeat-covered : (waited : List ℕ → Bool) (name : List ℕ) (best : Option Built) (last : Option BinaryRow) (row : BinaryRow) → IsCovered name best last
+    → is_repeat waited last row ≡ true → is_build_of name row ≡ true → Some (better built_cmp best (build_of row)) ≡ best
+repeat-covered waited name best None row covered repeats build = absurd cc
+repeat-covered waited name best (Some last) row covered repeats build =
+    let same = and-left (is_same_build last row) (not (waited row.name)) repeats in
+    let owned = and-left last.own row.own (and-left (last.own && row.own) _ same) in
+    let later = and-right (last.own && row.own) _ same in
+    let source = bytes_eq-is last.source row.source (and-left (bytes_eq last.source row.source) _ later) in
+    let numbered = and-right (bytes_eq last.source row.source) _ later in
+    let version = bytes_eq-is last.source_version row.source_version (and-left (bytes_eq last.source_version row.source_version) _ numbered) in
+    let number = same-number last.number row.number (and-right (bytes_eq last.source_version row.source_version) _ numbered) in
+    let is : is_build_of name last ≡ true = (λ i. bytes_eq name (source i) && owned i) ∙ ap (λ b. b && true) (and-left (bytes_eq name row.source) row.own build) in
+    ap (λ (b : Built). Some (better built_cmp best b)) (λ i. record { version = sym version i; number = sym number i }) ∙ covered is
+
+not_kept-repeats : (own is_waited repeats : Bool) → ((own || is_waited) && not repeats) ≡ false → own ≡ true → repeats ≡ true
+not_kept-repeats own is_waited true e owned = refl
+not_kept-repeats true is_waited false e owned = absurd cc
+not_kept-repeats false is_waited false e owned = absurd cc
+
+-- the latest build of a source package is the same without them
+repeats-built : (waited : List ℕ → Bool) (name : List ℕ) (rows : List (Option BinaryRow)) (best : Option Built) (last : Option BinaryRow) → IsCovered name best last
+    → best_from built_cmp best (map build_of (filter (is_build_of name) (binaries_behind waited last rows)))
+    ≡ best_from built_cmp best (map build_of (filter (is_build_of name) (present rows)))
+repeats-built waited name [] best last covered = refl
+repeats-built waited name (None ∷ rows) best last covered = repeats-built waited name rows best last covered
+repeats-built waited name (Some row ∷ rows) best last covered = go (repeats-built waited name rows) (is_binary_kept waited last row) (is_build_of name row) refl refl where
+  of_kept : Option BinaryRow → List BinaryRow
+  of_kept row = filter (is_build_of name) (binaries_behind waited row rows)
+
+  of_all : List BinaryRow
+  of_all = filter (is_build_of name) (present rows)
+
+  go : ((best : Option Built) (last : Option BinaryRow) → IsCovered name best last
+      → best_from built_cmp best (map build_of (of_kept last)) ≡ best_from built_cmp best (map build_of of_all))
+      → (k b : Bool) → is_binary_kept waited last row ≡ k → is_build_of name row ≡ b
+      → best_from built_cmp best (map build_of (filter (is_build_of name) (cond k (row ∷ []) [] ++ binaries_behind waited (cond k (Some row) last) rows)))
+      ≡ best_from built_cmp best (map build_of (cond (is_build_of name row) (row ∷ of_all) of_all))
+  go again true true k build =
+      ap (λ t. best_from built_cmp best (map build_of (cond t (row ∷ of_kept (Some row)) (of_kept (Some row))))) build
+      ∙ again (Some (better built_cmp best (build_of row))) (Some row) (λ _. ap (λ (b : Built). Some b) (better-again best (build_of row)))
+      ∙ ap (λ t. best_from built_cmp best (map build_of (cond t (row ∷ of_all) of_all))) (sym build)
+  go again true false k build =
+      ap (λ t. best_from built_cmp best (map build_of (cond t (row ∷ of_kept (Some row)) (of_kept (Some row))))) build
+      ∙ again best (Some row) (λ is. absurd (apart (sym build ∙ is)))
+      ∙ ap (λ t. best_from built_cmp best (map build_of (cond t (row ∷ of_all) of_all))) (sym build)
+  go again false true k build =
+      again best last covered
+      ∙ ap (λ (o : Option Built). best_from built_cmp o (map build_of of_all))
+      (sym (repeat-covered waited name best last row covered (not_kept-repeats row.own (waited row.name) _ k (and-right (bytes_eq name row.source) row.own build)) build))
+      ∙ ap (λ t. best_from built_cmp best (map build_of (cond t (row ∷ of_all) of_all))) (sym build)
+  go again false false k build =
+      again best last covered
+      ∙ ap (λ t. best_from built_cmp best (map build_of (cond t (row ∷ of_all) of_all))) (sym build)
+
+-- a row whose name is waited for is kept
+waited-kept : (waited : List ℕ → Bool) (last : Option BinaryRow) (row : BinaryRow) → waited row.name ≡ true → is_binary_kept waited last row ≡ true
+waited-kept waited None row e = ap (λ b. (row.own || b) && true) e ∙ at row.own where
+  at : (own : Bool) → ((own || true) && true) ≡ true
+  at true = refl
+  at false = refl
+waited-kept waited (Some last) row e = ap (λ b. (row.own || b) && not (is_same_build last row && not b)) e ∙ at row.own (is_same_build last row) where
+  at : (own same : Bool) → ((own || true) && not (same && false)) ≡ true
+  at true true = refl
+  at true false = refl
+  at false true = refl
+  at false false = refl
+
+-- those of a name that is waited for are the same
+repeats-named : (waited : List ℕ → Bool) (name : List ℕ) → waited name ≡ true → (rows : List (Option BinaryRow)) (last : Option BinaryRow)
+    → filter (λ row. bytes_eq name row.name) (binaries_behind waited last rows) ≡ filter (λ row. bytes_eq name row.name) (present rows)
+repeats-named waited name e [] last = refl
+repeats-named waited name e (None ∷ rows) last = repeats-named waited name e rows last
+repeats-named waited name e (Some row ∷ rows) last = go (repeats-named waited name e rows) (is_binary_kept waited last row) (bytes_eq name row.name) refl refl where
+  of_all : List BinaryRow
+  of_all = filter (λ row. bytes_eq name row.name) (present rows)
+
+  go : ((last : Option BinaryRow) → filter (λ row. bytes_eq name row.name) (binaries_behind waited last rows) ≡ of_all)
+      → (k b : Bool) → is_binary_kept waited last row ≡ k → bytes_eq name row.name ≡ b
+      → filter (λ row. bytes_eq name row.name) (cond k (row ∷ []) [] ++ binaries_behind waited (cond k (Some row) last) rows)
+      ≡ cond (bytes_eq name row.name) (row ∷ of_all) of_all
+  go again true b k is = ap (λ (l : List BinaryRow). cond (bytes_eq name row.name) (row ∷ l) l) (again (Some row))
+  go again false true k is = absurd (apart (sym k ∙ waited-kept waited last row (ap waited (sym (bytes_eq-is name row.name is)) ∙ e)))
+  go again false false k is = again last ∙ ap (λ t. cond t (row ∷ of_all) of_all) (sym is)
+
 -- ---- the listing of the rows that can matter
 
-module _ (arch : ArchWords) (archs : List ArchWords) (there : IsIn arch archs) (waited : List ℕ → Bool) (sources : List SourceRow) (binaries : List BinaryRow) where
+module _ (arch : ArchWords) (archs : List ArchWords) (there : IsIn arch archs) (waited : List ℕ → Bool) (sources : List SourceRow) (rows : List (Option BinaryRow)) where
   abbrev cut : ArchiveListing
-  cut = listing_of_kept arch (filter (is_source_wanted archs) sources) (filter (is_binary_wanted waited) binaries)
+  cut = listing_of_kept arch (filter (is_source_wanted archs) sources) (binaries_wanted waited rows)
 
-  cut-listed : cut.listed ≡ (listing_of_kept arch sources binaries).listed
+  abbrev whole : ArchiveListing
+  whole = listing_of_kept arch sources (present rows)
+
+  cut-listed : cut.listed ≡ whole.listed
   cut-listed = finite.same_map text_cmp_total text_cmp-same _ _ (λ name.
-      listed-kept arch (filter (is_source_wanted archs) sources) (filter (is_binary_wanted waited) binaries) name
+      listed-kept arch (filter (is_source_wanted archs) sources) (binaries_wanted waited rows) name
       ∙ listed_in-filter arch (is_source_wanted archs) sources name (candidate-wanted arch archs there name)
-      ∙ sym (listed-kept arch sources binaries name))
+      ∙ sym (listed-kept arch sources (present rows) name))
 
-  cut-built : cut.built ≡ (listing_of_kept arch sources binaries).built
+  built-same : (name : List ℕ) → built_in (binaries_wanted waited rows) name ≡ built_in (present rows) name
+  unfolding built_in
+  built-same name = repeats-built waited name rows None None tt
+
+  cut-built : cut.built ≡ whole.built
   cut-built = finite.same_map text_cmp_total text_cmp-same _ _ (λ name.
-      built-kept arch (filter (is_source_wanted archs) sources) (filter (is_binary_wanted waited) binaries) name
-      ∙ built_in-filter (is_binary_wanted waited) binaries name (build-wanted waited name)
-      ∙ sym (built-kept arch sources binaries name))
+      built-kept arch (filter (is_source_wanted archs) sources) (binaries_wanted waited rows) name
+      ∙ built-same name
+      ∙ sym (built-kept arch sources (present rows) name))
 
-  cut-versions : (name : List ℕ) → waited name ≡ true → versions_of cut.available name ≡ versions_of (listing_of_kept arch sources binaries).available name
+  versions-same : (name : List ℕ) → waited name ≡ true → versions_in (binaries_wanted waited rows) name ≡ versions_in (present rows) name
+  unfolding versions_in
+  versions-same name e = ap (map (λ (row : BinaryRow). row.version)) (repeats-named waited name e rows None)
+
+  cut-versions : (name : List ℕ) → waited name ≡ true → versions_of cut.available name ≡ versions_of whole.available name
   cut-versions name e =
-      versions-kept arch (filter (is_source_wanted archs) sources) (filter (is_binary_wanted waited) binaries) name
-      ∙ versions_in-filter (is_binary_wanted waited) binaries name (named-wanted waited name e)
-      ∙ sym (versions-kept arch sources binaries name)
+      versions-kept arch (filter (is_source_wanted archs) sources) (binaries_wanted waited rows) name
+      ∙ versions-same name e
+      ∙ sym (versions-kept arch sources (present rows) name)
 
-  pub cut-alike : (records : Records) → AreAllWaitedFor records arch.name waited → AreAlike records arch.name cut (listing_of_kept arch sources binaries)
+  pub cut-alike : (records : Records) → AreAllWaitedFor records arch.name waited → AreAlike records arch.name cut whole
   cut-alike records all = record {
     listed = cut-listed;
     built = cut-built;
     waits = λ name. at name (finite.get records (arch.name, name)) refl;
   } where
     at : (name : List ℕ) (found : Option Record) → finite.get records (arch.name, name) ≡ found
-        → IfSome found (λ c. is_dep_wait c.state ≡ true → are_waits_met cut.available c.waits ≡ are_waits_met (listing_of_kept arch sources binaries).available c.waits)
+        → IfSome found (λ c. is_dep_wait c.state ≡ true → are_waits_met cut.available c.waits ≡ are_waits_met whole.available c.waits)
     at name None e = tt
-    at name (Some current) e = λ waits.
-        waits-same cut.available (listing_of_kept arch sources binaries).available waited cut-versions current.waits (all name current e waits)
+    at name (Some current) e = λ waits. waits-same cut.available whole.available waited cut-versions current.waits (all name current e waits)

@@ -51,7 +51,7 @@ pub part-kept : {R : Type 0} (Breaks : R → ControlFault → Type 0) (reader : 
 part-kept Breaks reader Holds Stood arch archs waited records rows place end there all stood step =
     let read = with-read (packages_at arch place) (λ read. Stood (binaries_wanted waited read)) stood in
     let done = step (binaries_wanted waited read.0) read.1.1 in
-    let alike = cut-alike arch archs there waited rows (present read.0) records all in
+    let alike = cut-alike arch archs there waited rows read.0 records all in
     let one = listing_of_kept arch (sources_wanted archs rows) (binaries_wanted waited read.0) in
     let other = listing_of_kept arch rows (present read.0) in
     record {

@@ -5,7 +5,7 @@ ghost use Rattle.deb_text.specs.Text.{text_cmp};
 ghost use Rattle.wb_states.specs.declared.refusal.ListKind.TheVariants.{Packages, Sources};
 ghost use Rattle.wb_merge.specs.Scratch.{binary_row_at, source_row_at};
 ghost use Rattle.wb_archive.specs.Faults.{StopsAs};
-ghost use Rattle.wb_archive.specs.Fills.{IsFilled, binaries_wanted, is_binary_wanted, is_source_wanted, sources_wanted};
+ghost use Rattle.wb_archive.specs.Fills.{IsFilled, binaries_wanted, binary_kept, is_binary_wanted, is_repeat, is_same_build, is_source_wanted, last_kept, sources_wanted};
 ghost use Rattle.wb_archive.specs.Reads.{IsRefused, MayStandWhere, packages_at, sources_at};
 ghost use Rattle.wb_archive.specs.Tables.{Tables, IsAfterBinaries, IsAfterSources, with_binaries, with_sources};
 
@@ -55,24 +55,51 @@ fn keep_source<T: MergeTables>(
     Ok(())
 }
 
-/// Puts what is kept of a paragraph into its table, if anything is kept of it and it can matter.
+/// Whether both rows say that the same build was built on the architecture.
+fn is_same_build(one: &BinaryRow, other: &BinaryRow) -> bool
+    ensures { result ≡ is_same_build one.now other.now }
+{
+    let are_own = one.own && other.own;
+    let is_same_source = one.source.as_str() == other.source.as_str();
+    let is_same_version = one.source_version.text() == other.source_version.text();
+    are_own && (is_same_source && (is_same_version && one.number == other.number))
+}
+
+/// Whether the row says of a build what the row that was kept last says, and no record can wait for its name.
+fn is_repeat(row: &BinaryRow, last: &Option<BinaryRow>, waited: &BTreeSet<Text>) -> bool
+    ensures { result ≡ is_repeat (contains text_cmp waited.now) last.now row.now }
+{
+    match last {
+        Some(last) => is_same_build(last, row) && !waited.contains(&row.name),
+        None => false,
+    }
+}
+
+/// Puts what is kept of a paragraph into its table, if anything is kept of it, it can matter, and it does not only repeat
+/// the row that was put there last.
 fn keep_binary<T: MergeTables>(
     tables: &mut T,
     waited: &BTreeSet<Text>,
-    row: &Option<BinaryRow>,
+    last: &mut Option<BinaryRow>,
+    row: Option<BinaryRow>,
 ) -> Result<(), MergeFault<T::Fault>>
-    requires fits { IfSome row.now (λ row. row.seq < 2 ^ 63) }
+    requires fits { IfSome row (λ row. row.seq < 2 ^ 63) }
     ensures value { (at : Tables) → T.is_clean tables.new → T.holds tables.old at
-        → IfSome row.now (λ row. IsAfterBinaries row.seq at.now.binaries)
+        → IfSome row (λ row. IsAfterBinaries row.seq at.now.binaries)
         → OnOk result (T.holds tables.new
-        (with_binaries (at.now.binaries ++ binaries_wanted (contains text_cmp waited.now) (row.now ∷ [])) at)) }
+        (with_binaries (at.now.binaries ++ binary_kept (contains text_cmp waited.now) last.old row) at)) }
+    ensures last { OnOk result (last.new ≡ last_kept (contains text_cmp waited.now) last.old row) }
     ensures follows { OnOk result (T.follows tables.old tables.new) }
     ensures stops { IfErr result (StopsAs T.follows T.fails tables.old tables.new) }
 {
-    match row {
-        Some(row) if is_binary_wanted(row, waited) => asked(tables.add_binary(row)),
-        _ => Ok(()),
+    let Some(row) = row else {
+        return Ok(());
+    };
+    if is_binary_wanted(&row, waited) && !is_repeat(&row, last, waited) {
+        asked(tables.add_binary(&row))?;
+        *last = Some(row);
     }
+    Ok(())
 }
 
 /// Reads a Sources list, of which no paragraph was read before, into its table, which is empty: of its rows those that
@@ -106,8 +133,8 @@ pub fn fill_sources<T: MergeTables, R: ReadParagraphs>(
 }
 
 /// Reads the Packages list of an architecture, of which no paragraph was read before, into its table, which is empty: of
-/// its rows those that can matter, the architecture's own and those whose names are waited for. Each paragraph is read
-/// and checked all the same, and the first faulty one refuses the list, or that its reader broke; the table then has
+/// its rows those that can matter, the architecture's own and those whose names are waited for, but none that says of a
+/// build only what the row before it says. Each paragraph is read and checked all the same, and the first faulty one refuses the list, or that its reader broke; the table then has
 /// some rows. The errors are `Memory` if memory ran out, or if the list has 2^63 - 1 paragraphs or more, which cannot
 /// all be numbered, and else the fault of the tables (this project's own).
 pub fn fill_binaries<T: MergeTables, R: ReadParagraphs>(
@@ -125,9 +152,10 @@ pub fn fill_binaries<T: MergeTables, R: ReadParagraphs>(
     ensures follows { OnOk result (T.follows tables.old tables.new) }
     ensures stops { IfErr result (StopsAs T.follows T.fails tables.old tables.new) }
 {
+    let mut last = None;
     for passed in 0..LAST_PLACE {
         match next_binary(alloc, list, passed, arch) {
-            Ok(Some(row)) => keep_binary(tables, waited, &row)?,
+            Ok(Some(row)) => keep_binary(tables, waited, &mut last, row)?,
             Ok(None) => return Ok(None),
             Err(ReadFault::Bad(bad)) => return Ok(Some(bad)),
             Err(ReadFault::Memory) => return Err(MergeFault::Memory),

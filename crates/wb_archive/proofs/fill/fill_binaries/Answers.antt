@@ -1,12 +1,12 @@
-use Rattle.std.proofs.Common.{◌+◌, [], ◌∷◌, refl, subst, rules}
+use Rattle.std.proofs.Common.{◌+◌, ◌++◌, List, Option, None, ap, sym, ◌∙◌, refl, subst, rules}
 use Rattle.std.specs.BTreeSet.{contains}
 use Rattle.deb_text.specs.Text.{text_cmp}
 use Rattle.wb_states.specs.declared.refusal.ListKind.TheVariants.{Packages}
 use Rattle.wb_states.specs.declared.scratch.BinaryRow.{BinaryRow}
 use Rattle.wb_merge.specs.Scratch.{binary_row_at}
-use Rattle.wb_archive.specs.Fills.{binaries_wanted}
+use Rattle.wb_archive.specs.Fills.{binaries_wanted, binary_kept, last_behind, last_kept}
 use Rattle.wb_archive.specs.Tables.{with_binaries}
-use Rattle.wb_archive.proofs.FillLemmas.{binary-after, half-ended, half-refused, half-start, half-step, binary-numbered, binaries-split}
+use Rattle.wb_archive.proofs.FillLemmas.{binary-after, binaries-split, binary-numbered, half-ended, half-refused, half-start, half-step, last-split}
 use Rattle.wb_archive.proofs.StopLemmas.{stops-on}
 use Rattle.wb_archive.proofs.fill.fill_binaries.Goals as goal
 
@@ -14,11 +14,11 @@ pub returns-in-Ok-None-clause-value : goal.returns-in-Ok-None-clause-value
 returns-in-Ok-None-clause-value g c = λ at clean holds first empty.
     let counted = g.R.ReadParagraphs.passed c.loop-passed.list in
     half-ended g.R.ReadParagraphs.may_stand_at (binary_row_at c.args.arch.now) (binaries_wanted (contains text_cmp c.args.waited.now)) (λ (row : BinaryRow). row.seq) Packages
-    c.args.list.now c.loop-passed.list counted c.loop-passed.passed (c.loop-passed.invariant.half at clean holds first empty) (c.in-Ok-None.ensures.ended c.in-Ok-None.field-0-is)
+    c.args.list.now c.loop-passed.list counted c.loop-passed.passed (c.loop-passed.invariant.half at clean holds first empty).0 (c.in-Ok-None.ensures.ended c.in-Ok-None.field-0-is)
 
 pub returns-in-Err-Bad-clause-value : goal.returns-in-Err-Bad-clause-value
 returns-in-Err-Bad-clause-value g c = λ at clean holds first empty.
-    let half = c.loop-passed.invariant.half at clean holds first empty in
+    let half = (c.loop-passed.invariant.half at clean holds first empty).0 in
     let counted = g.R.ReadParagraphs.passed c.loop-passed.list in
     rw c.in-Err-Bad.field-0-is (half-refused g.R.ReadParagraphs.may_stand_at (binary_row_at c.args.arch.now) (binaries_wanted (contains text_cmp c.args.waited.now)) (λ (row : BinaryRow). row.seq) Packages
     g.R.ReadParagraphs.breaks c.args.list.now c.loop-passed.list c.next_binary.new.list counted c.loop-passed.passed c.in-Err-Bad.bad half
@@ -27,10 +27,12 @@ returns-in-Err-Bad-clause-value g c = λ at clean holds first empty.
 pub loop-passed-init : goal.loop-passed-init
 loop-passed-init g c = record {
   follows = g.met.T.MergeTables.follows_itself c.args.tables.now;
-  half = λ at clean holds first empty.
-      half-start g.R.ReadParagraphs.may_stand_at (binary_row_at c.args.arch.now) (binaries_wanted (contains text_cmp c.args.waited.now)) (λ (row : BinaryRow). row.seq)
-      (λ rows. g.T.MergeTables.holds c.args.tables.now (with_binaries rows at)) c.args.list.now (g.R.ReadParagraphs.passed c.args.list.now) first refl
-      (subst (λ rows. g.T.MergeTables.holds c.args.tables.now (with_binaries rows at)) empty holds);
+  half = λ at clean holds first empty. (
+    half-start g.R.ReadParagraphs.may_stand_at (binary_row_at c.args.arch.now) (binaries_wanted (contains text_cmp c.args.waited.now)) (λ (row : BinaryRow). row.seq)
+        (λ rows. g.T.MergeTables.holds c.args.tables.now (with_binaries rows at)) c.args.list.now (g.R.ReadParagraphs.passed c.args.list.now) first refl
+        (subst (λ rows. g.T.MergeTables.holds c.args.tables.now (with_binaries rows at)) empty holds),
+    refl,
+  );
 }
 
 pub loop-passed-preserved : goal.loop-passed-preserved
@@ -39,18 +41,23 @@ loop-passed-preserved g c =
     let kept = c.in_ok-keep_binary-in-Ok-Some.ensures in
     let row = c.in-Ok-Some.row in
     let count = g.R.ReadParagraphs.passed in
+    let waited = contains text_cmp c.args.waited.now in
     record {
       follows = laws.follows_on c.args.tables.now c.loop-passed.tables c.keep_binary.new.tables c.loop-passed.invariant.follows kept.follows;
       half = λ at clean holds first empty.
-          let half = c.loop-passed.invariant.half at (laws.clean c.loop-passed.tables c.keep_binary.new.tables kept.follows clean) holds first empty in
+          let both = c.loop-passed.invariant.half at (laws.clean c.loop-passed.tables c.keep_binary.new.tables kept.follows clean) holds first empty in
+          let half = both.0 in
           let number = rw c.in-Ok-Some.field-0-is at c.in-Ok-Some.ensures.number in
-          half-step g.R.ReadParagraphs.may_stand_at (binary_row_at c.args.arch.now) (binaries_wanted (contains text_cmp c.args.waited.now)) (λ (row : BinaryRow). row.seq)
-          c.args.list.now c.loop-passed.list c.next_binary.new.list (count c.loop-passed.list) (count c.next_binary.new.list) c.loop-passed.passed half row
-          (rw c.in-Ok-Some.field-0-is at (c.in-Ok-Some.ensures.value half.count)) (rw c.in-Ok-Some.field-0-is at c.in-Ok-Some.ensures.counts)
-          (binaries-split (contains text_cmp c.args.waited.now) half.done (row ∷ []))
-          (kept.value (with_binaries (binaries_wanted (contains text_cmp c.args.waited.now) half.done) at) clean half.holds
-          (binary-after (c.loop-passed.passed + 1) row (binaries_wanted (contains text_cmp c.args.waited.now) half.done) number half.below))
-          (binary-numbered (contains text_cmp c.args.waited.now) (c.loop-passed.passed + 1) row number);
+          let added = binary_kept waited c.loop-passed.last row in (
+            half-step g.R.ReadParagraphs.may_stand_at (binary_row_at c.args.arch.now) (binaries_wanted waited) (λ (row : BinaryRow). row.seq)
+                c.args.list.now c.loop-passed.list c.next_binary.new.list (count c.loop-passed.list) (count c.next_binary.new.list) c.loop-passed.passed half row added
+                (rw c.in-Ok-Some.field-0-is at (c.in-Ok-Some.ensures.value half.count)) (rw c.in-Ok-Some.field-0-is at c.in-Ok-Some.ensures.counts)
+                (binaries-split waited None half.done row ∙ ap (λ (l : Option BinaryRow). binaries_wanted waited half.done ++ binary_kept waited l row) (sym both.1))
+                (kept.value (with_binaries (binaries_wanted waited half.done) at) clean half.holds
+                (binary-after (c.loop-passed.passed + 1) row (binaries_wanted waited half.done) number half.below))
+                (binary-numbered waited (c.loop-passed.passed + 1) c.loop-passed.last row number),
+            kept.last ∙ ap (λ (l : Option BinaryRow). last_kept waited l row) both.1 ∙ sym (last-split waited None half.done row),
+          );
     }
 
 pub returns-in_err-keep_binary-in-Ok-Some-clause-stops : goal.returns-in_err-keep_binary-in-Ok-Some-clause-stops

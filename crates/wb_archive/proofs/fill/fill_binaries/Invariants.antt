@@ -1,9 +1,9 @@
-use Rattle.std.proofs.Common.{◌≡◌, []}
+use Rattle.std.proofs.Common.{◌≡◌, [], None}
 use Rattle.std.specs.BTreeSet.{contains}
 use Rattle.deb_text.specs.Text.{text_cmp}
 use Rattle.wb_states.specs.declared.scratch.BinaryRow.{BinaryRow}
 use Rattle.wb_merge.specs.Scratch.{binary_row_at}
-use Rattle.wb_archive.specs.Fills.{binaries_wanted}
+use Rattle.wb_archive.specs.Fills.{binaries_wanted, last_behind}
 use Rattle.wb_archive.specs.Tables.{Tables, with_binaries}
 use Rattle.wb_archive.proofs.FillLemmas.{IsHalfFilled}
 use Rattle.wb_archive.proofs.fill.fill_binaries.Given as goal
@@ -13,6 +13,7 @@ invariant-loop-passed g l = record {
   follows : g.T.MergeTables.follows l.fn.tables l.tables;
   half : (at : Tables) → g.T.MergeTables.is_clean l.tables → g.T.MergeTables.holds l.fn.tables at
       → g.R.ReadParagraphs.passed l.fn.list ≡ 0 → at.now.binaries ≡ []
-      → IsHalfFilled g.R.ReadParagraphs.may_stand_at (binary_row_at l.arch) (binaries_wanted (contains text_cmp l.waited)) (λ (row : BinaryRow). row.seq)
-      (λ rows. g.T.MergeTables.holds l.tables (with_binaries rows at)) l.fn.list l.list (g.R.ReadParagraphs.passed l.list) l.passed;
+      → (filled : IsHalfFilled g.R.ReadParagraphs.may_stand_at (binary_row_at l.arch) (binaries_wanted (contains text_cmp l.waited)) (λ (row : BinaryRow). row.seq)
+      (λ rows. g.T.MergeTables.holds l.tables (with_binaries rows at)) l.fn.list l.list (g.R.ReadParagraphs.passed l.list) l.passed)
+      × (l.last ≡ last_behind (contains text_cmp l.waited) None filled.done);
 }

@@ -44,7 +44,7 @@ loop-passed-preserved g c =
           let half = c.loop-passed.invariant.half at (laws.clean c.loop-passed.tables c.keep_source.new.tables kept.follows clean) holds first empty in
           let number = rw c.in-Ok-Some.field-0-is at c.in-Ok-Some.ensures.number in
           half-step g.R.ReadParagraphs.may_stand_at source_row_at (sources_wanted c.args.archs.now) (λ (row : SourceRow). row.seq)
-          c.args.list.now c.loop-passed.list c.next_source.new.list (count c.loop-passed.list) (count c.next_source.new.list) c.loop-passed.passed half row
+          c.args.list.now c.loop-passed.list c.next_source.new.list (count c.loop-passed.list) (count c.next_source.new.list) c.loop-passed.passed half row (sources_wanted c.args.archs.now (row ∷ []))
           (rw c.in-Ok-Some.field-0-is at (c.in-Ok-Some.ensures.value half.count)) (rw c.in-Ok-Some.field-0-is at c.in-Ok-Some.ensures.counts)
           (sources-split c.args.archs.now half.done (row ∷ []))
           (kept.value (with_sources (sources_wanted c.args.archs.now half.done) at) clean half.holds
