@@ -237,24 +237,33 @@ static char *cut_source(char *source) {
     return space + 2;
 }
 
+/* Of packages of one build in a row only the first is put into the table. */
 static void fill_binaries(const char *name, const struct arch *arch) {
     static struct field fields[] = {{"Package"}, {"Version"}, {"Architecture"}, {"Source"}};
     struct list from = open_list(name);
+    char *last_source = NULL, *last_version = NULL;
+    int last_number = 0;
     while (next_paragraph(&from, fields, sizeof fields / sizeof *fields)) {
         if (strcmp(value_of(&from, &fields[2]), arch->name) != 0) continue;
         const char *package = value_of(&from, &fields[0]), *version = value_of(&from, &fields[1]);
-        char *source_version = fields[3].is_there ? cut_source(fields[3].value.at) : NULL;
+        char *version_of = fields[3].is_there ? cut_source(fields[3].value.at) : NULL;
+        const char *source = fields[3].is_there ? fields[3].value.at : package, *source_version = version_of ? version_of : version;
+        int number = version_of ? rebuild_number(version) : 0;
+        if (last_source && same(last_source, source) && same(last_version, source_version) && last_number == number) continue;
+        free(last_source), free(last_version);
+        last_source = copy(source), last_version = copy(source_version), last_number = number;
         sqlite3_stmt *at = ready(ADD_BINARY);
         sqlite3_bind_int64(at, 1, from.place);
         bind(at, 2, package);
         bind(at, 3, version);
-        bind(at, 4, fields[3].is_there ? fields[3].value.at : package);
-        bind(at, 5, source_version ? source_version : version);
-        sqlite3_bind_int64(at, 6, source_version ? rebuild_number(version) : 0);
+        bind(at, 4, source);
+        bind(at, 5, source_version);
+        sqlite3_bind_int64(at, 6, number);
         sqlite3_bind_int64(at, 7, 1);
         write_by(at);
         note_place(from.place);
     }
+    free(last_source), free(last_version);
     close_list(&from);
 }
 
@@ -362,10 +371,13 @@ static void drop_names(struct names *old) {
     free(old->at);
 }
 
+static int compare_names(const void *one, const void *other) { return strcmp(*(char *const *)one, *(char *const *)other); }
+
 /* The source packages of the architecture that have a record, then those that are listed and have none. */
 static struct names names_to_decide(const struct arch *arch) {
-    struct names made = {NULL, 0, 0}, listed = {NULL, 0, 0};
+    struct names made = {NULL, 0, 0};
     struct record one;
+    const char *name;
     sqlite3_stmt *at = ready(OF_ARCH);
     bind(at, 1, arch->name);
     while (next_record(at, &one)) {
@@ -373,13 +385,12 @@ static struct names names_to_decide(const struct arch *arch) {
         one.source = NULL;
         drop(&one);
     }
-    for (at = ready(SOURCE_NAMES); has_row(at);)
-        if (!listed.count || strcmp(listed.at[listed.count - 1], (const char *)sqlite3_column_text(at, 0)) != 0) add_name(&listed, column(at, 0));
-    for (size_t k = 0; k < listed.count; k++) {
-        if (find_record(arch->name, listed.at[k], &one)) drop(&one);
-        else add_name(&made, copy(listed.at[k]));
+    size_t recorded = made.count; /* by name, as those that are listed are */
+    for (at = ready(SOURCE_NAMES); has_row(at);) {
+        name = (const char *)sqlite3_column_text(at, 0);
+        if (made.count > recorded && strcmp(made.at[made.count - 1], name) == 0) continue;
+        if (!recorded || !bsearch(&name, made.at, recorded, sizeof name, compare_names)) add_name(&made, copy(name));
     }
-    drop_names(&listed);
     return made;
 }
 

@@ -7,7 +7,7 @@ ghost use Rattle.wb_office.specs.Answers.{AreOf, IsNamed};
 ghost use Rattle.wb_store.specs.Finds.{Finds};
 ghost use Rattle.wb_office.specs.Sought.{key_named, office_of};
 
-mod found;
+pub(crate) mod found;
 mod names;
 mod part;
 

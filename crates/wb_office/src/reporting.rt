@@ -1,6 +1,6 @@
 //! What the office answers to a report over its tables: the records that its lines name are read, and those that differ
 //! are written in one transaction.
-ghost use Rattle.std.specs.Prelude.{◌≡◌, ◌++◌, bytes_eq, nat_le, false, None, Some, map as each, option_map, IfOk, IfErr, OnOk};
+ghost use Rattle.std.specs.Prelude.{◌≡◌, ◌++◌, bytes_eq, nat_le, false, None, Some, map as each, option_and_then, option_map, IfOk, IfErr, OnOk};
 ghost use Rattle.std.specs.List.{list_any};
 ghost use Rattle.std.specs.Str.{IsUtf8};
 ghost use Rattle.wb_states.specs.declared.command.Command.TheVariants as of;
@@ -11,7 +11,7 @@ ghost use Rattle.wb_states.specs.Limits.{count_limit};
 ghost use Rattle.wb_states.specs.Lookups.{entry_of};
 ghost use Rattle.wb_states.specs.Machine.{Machine};
 ghost use Rattle.wb_states.specs.Refusals.{IsOfMachine, is_of_store};
-ghost use Rattle.wb_merge.specs.Reported.{row_reported, rows_reported};
+ghost use Rattle.wb_merge.specs.Reported.{changed_by_line, row_reported, rows_reported};
 ghost use Rattle.wb_step.specs.Checks.{MayWantMemory, first_refusal};
 ghost use Rattle.wb_step.specs.Named.{listed};
 ghost use Rattle.wb_step.specs.Step.{lines_said};
@@ -23,11 +23,12 @@ ghost use Rattle.wb_office.specs.Rows.{CarriesRows, HaveFit, IsAccepted, WritesR
 
 use crate::answer::{Answered, Failure};
 use crate::carry::{CarryError, failure};
+use crate::named::found::keyed;
 use crate::rows::put_all;
 use deb_text::Text;
 use sqlite::Alter;
 use std::alloc::{AllocError, Global};
-use wb_merge::{ReportLines, changed_by_report};
+use wb_merge::{ReportLine, ReportLines, changed_by_report};
 use wb_states::command::Report;
 use wb_states::{
     COUNT_LIMIT, Counts, KeyedRecord, OsCpu, Record, Refusal, Reply, StoreFault, Table, is_arch,
@@ -96,6 +97,22 @@ fn find_row<S: Alter + Drop>(
     row_found(alloc, arch, lines, source, found)
 }
 
+/// The record that was found, after the line of the report that names it, if a field of it differs. The only fault is
+/// `Memory`.
+fn changed_if_found(
+    alloc: Global,
+    found: Option<Record>,
+    line: &ReportLine,
+) -> Result<Option<Record>, StoreFault>
+    ensures value { IfOk result (λ new. new ≡ option_and_then (changed_by_line (Some line.now)) found) }
+    ensures fault { IfErr result (λ fault. fault ≡ Memory) }
+{
+    match found {
+        Some(current) => { changed_by_report(alloc, &current, line).or(Err(StoreFault::Memory)) }
+        None => Ok(None),
+    }
+}
+
 /// The same of the record that was found. The only fault is `Memory`.
 fn row_found(
     alloc: Global,
@@ -110,20 +127,8 @@ fn row_found(
     let Some(line) = lines.line(source) else {
         return Ok(None);
     };
-    let Some(current) = found else {
-        return Ok(None);
-    };
-    let Ok(changed) = changed_by_report(alloc, &current, line) else {
-        return Err(StoreFault::Memory);
-    };
-    let Some(current) = changed else {
-        return Ok(None);
-    };
-    Ok(Some(KeyedRecord {
-        arch: arch.clone()?,
-        source: source.clone()?,
-        current,
-    }))
+    let changed = changed_if_found(alloc, found, line)?;
+    Ok(keyed(arch, source, changed)?)
 }
 
 /// Adds the row after the others, if one was found. The only error is that there is no memory for it.

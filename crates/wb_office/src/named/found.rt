@@ -33,7 +33,7 @@ pub(crate) struct Found {
 }
 
 /// The record that was found, with its key. The only error is that there is no memory for it.
-fn keyed(
+pub(crate) fn keyed(
     arch: &Text,
     source: &Text,
     found: Option<Record>,
