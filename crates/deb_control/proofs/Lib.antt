@@ -19,6 +19,7 @@ pub mod GivesLemmas
 pub mod LineReadLemmas
 pub mod ParagraphReadLemmas
 pub mod OwnedLemmas
+pub mod IndexLemmas
 pub mod FeedLemmas
 pub mod FeedCallLemmas
 pub mod StandLemmas

@@ -1,6 +1,7 @@
 pub mod Lines
 pub mod Faults
 pub mod Fields
+pub mod Index
 pub mod Paragraphs
 pub mod Source
 pub mod Unfinished

@@ -1,15 +1,16 @@
 //! A paragraph that owns its text.
-ghost use Rattle.std.specs.Prelude.{◌≡◌, ◌≢◌, ◌≤◌, ◌<◌, ◌∷◌, [], length, true, Ok, Err, IfOk, IfErr, IfNone, IfSome, string_bytes};
+ghost use Rattle.std.specs.Prelude.{◌≡◌, ◌≢◌, ◌≤◌, ◌∷◌, [], length, true, Ok, Err, IfOk, IfErr, OnErr, IfNone, IfSome};
 ghost use Rattle.std.specs.Iterator.{YieldsFirst, item_count};
 ghost use Rattle.deb_control.specs.declared.fault.ControlFaultKind.TheVariants.{Ended, Memory, Read};
-ghost use Rattle.deb_control.specs.Lines.{lines_of, lines_in};
-ghost use Rattle.deb_control.specs.Fields.{fields_of, field_of, field_named, paragraph_limit, reading_of, takes_memory};
+ghost use Rattle.deb_control.specs.Lines.{is_nonempty, lines_of, lines_in};
+ghost use Rattle.deb_control.specs.Index.{IsIndex, first_field};
+ghost use Rattle.deb_control.specs.Fields.{fields_of, field_of, field_named, has_name, paragraph_limit, reading_of, takes_memory};
 
 use crate::field::{Field, colon_parts};
 use crate::lines::{is_continuation_line, split_text};
 use crate::paragraph::is_same_name;
 use crate::{ControlFaultKind, Fields, Paragraph};
-use std::alloc::Global;
+use std::alloc::{AllocError, Global};
 use std::marker::Model;
 
 /// The field that begins at a line, after which `rest` stands. A line without a colon is all name.
@@ -40,10 +41,45 @@ fn next_field(text: &str) -> Option<(Field<'_>, &str)>
     None
 }
 
+/// The places of a text at which its fields begin.
+fn index_of(alloc: Global, text: &str) -> Result<Vec<usize>, AllocError>
+    ensures value { IfOk result (λ starts. IsIndex text.now starts.items) }
+    ensures memory { OnErr result (is_nonempty (fields_of (lines_in text.now)) ≡ true) }
+{
+    let mut starts = Vec::new(alloc);
+    let mut left = text;
+    while !left.is_empty() {
+        let (line, rest) = split_text(left);
+        if !is_continuation_line(line) {
+            starts.push(text.len() - left.len())?;
+        }
+        left = rest;
+    }
+    Ok(starts)
+}
+
+/// The field of the first line of a text, and of the lines after it.
+fn first_field(text: &str) -> Field<'_>
+    ensures { result ≡ first_field text.now }
+{
+    let (line, rest) = split_text(text);
+    field_at(line, rest)
+}
+
+/// Whether a text begins with this name, without regard to case, which may be the front of a longer one.
+fn begins_with(text: &str, name: &str) -> bool
+    ensures { has_name name.now (first_field text.now) ≡ true → result ≡ true }
+{
+    let bytes = text.as_bytes();
+    name.len() <= bytes.len() && bytes[..name.len()].eq_ignore_ascii_case(name.as_bytes())
+}
+
 /// A paragraph that owns its text (Debian Policy 5.1).
 #[derive(Debug, Drop)]
 pub struct OwnedParagraph {
     text: String,
+    /// Where the lines begin that begin its fields.
+    starts: Vec<usize>,
 }
 
 impl Model for OwnedParagraph {
@@ -54,6 +90,10 @@ impl Model for OwnedParagraph {
     ghost Value = { List FieldText };
 
     ghost view = { λ p. fields_of (lines_in (string_bytes p.text)) };
+
+    ghost use Rattle.deb_control.specs.Index.{IsIndex};
+
+    ghost invariant = { λ p. IsIndex (string_bytes p.text) p.starts.items };
 }
 
 impl OwnedParagraph {
@@ -71,7 +111,8 @@ impl OwnedParagraph {
             return Err(ControlFaultKind::NotUtf8);
         };
         drop(Paragraph::of_text(alloc, text.as_str())?);
-        Ok(OwnedParagraph { text })
+        let starts = index_of(alloc, text.as_str())?;
+        Ok(OwnedParagraph { text, starts })
     }
 
     /// The fields in the order in which they stand. Takes no memory.
@@ -89,9 +130,14 @@ impl OwnedParagraph {
     pub fn get(&self, name: &str) -> Option<Field<'_>>
         ensures { result ≡ field_named name.now self.now }
     {
-        for field in self.fields() {
-            if is_same_name(field.name(), name) {
-                return Some(field);
+        let text = self.text.as_str();
+        for start in &self.starts {
+            let left = &text[*start..];
+            if begins_with(left, name) {
+                let field = first_field(left);
+                if is_same_name(field.name(), name) {
+                    return Some(field);
+                }
             }
         }
         None
