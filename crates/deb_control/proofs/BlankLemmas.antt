@@ -1,10 +1,11 @@
 -- Trimming: what is left when one space or tab goes, and when none is there.
-use Rattle.std.proofs.Common.{◌≡◌, ◌≢◌, ◌∙◌, sym, ap, refl, ℕ, suc, ◌+◌, ◌<◌, true, false, length, drop, reverse, List, [], ◌∷◌, ◌++◌, Bor, MatchOption, Option, None, Some, arith}
+use Rattle.std.proofs.Common.{◌≡◌, ◌≢◌, ◌∙◌, sym, ap, refl, ℕ, suc, ◌+◌, ◌<◌, true, false, ◌&&◌, length, get_or, drop, drop-cons, reverse, List, [], ◌∷◌, ◌++◌, Bor, MatchOption, Option, None, Some, arith}
 use Rattle.std.specs.Prelude.{IfNone, IfSome, OnSome}
-use Rattle.std.specs.List.{prefix_len}
+use Rattle.std.specs.List.{before_first, list_all, prefix_len}
 use Rattle.std.proofs.lemmas.Bool.Decides.{nat_tests}
 use Rattle.std.proofs.lemmas.List.{reverse-append, reverse-reverse, length-append}
-use Rattle.deb_control.specs.Lines.{is_blank, is_continuation, trim_start, trim_end}
+use Rattle.deb_control.specs.Lines.{is_blank, is_continuation, is_line_feed, trim_start, trim_end}
+use Rattle.deb_control.proofs.LineLemmas.{before-other}
 
 -- a character other than a space and a tab is no blank
 is_blank-other : (c : ℕ) → c ≢ 32 → c ≢ 9 → is_blank c ≡ false
@@ -82,3 +83,31 @@ pub before_tab : (text : List ℕ) (r : Option (Bor (List ℕ))) → ((front : L
 before_tab text None no_space no_tab = record { none = trim_end-kept text no_space no_tab; same = tt; shorter = tt }
 before_tab text (Some x) no_space tab =
     record { none = tt; same = trim_end-blank text 9 x.now refl tab; shorter = length-before_blank text 9 x.now tab }
+
+-- ---- the first line, byte by byte
+
+blank-after : (n : ℕ) → suc n ≡ n + 1
+blank-after n = omega arith
+
+blank-goes-on : (c : ℕ) (cs : List ℕ) → is_line_feed c ≡ false → is_blank c ≡ true
+    → list_all is_blank (before_first is_line_feed cs) ≡ list_all is_blank (before_first is_line_feed (c ∷ cs))
+blank-goes-on c cs other blank = sym (ap (list_all is_blank) (before-other c cs other) ∙ ap (λ b. b && list_all is_blank (before_first is_line_feed cs)) blank)
+
+blank-stops-at : (c : ℕ) (cs : List ℕ) → is_line_feed c ≡ false → is_blank c ≡ false → false ≡ list_all is_blank (before_first is_line_feed (c ∷ cs))
+blank-stops-at c cs other not_blank = sym (ap (list_all is_blank) (before-other c cs other) ∙ ap (λ b. b && list_all is_blank (before_first is_line_feed cs)) not_blank)
+
+pub blank-goes : (text : List ℕ) (at : ℕ) → at < length text → is_line_feed (get_or text at 0) ≡ false → is_blank (get_or text at 0) ≡ true
+    → list_all is_blank (before_first is_line_feed (drop (at + 1) text)) ≡ list_all is_blank (before_first is_line_feed (drop at text))
+blank-goes text at lt other blank =
+    ap (λ n. list_all is_blank (before_first is_line_feed (drop n text))) (sym (blank-after at))
+    ∙ blank-goes-on (get_or text at 0) (drop (suc at) text) other blank
+    ∙ ap (λ (l : List ℕ). list_all is_blank (before_first is_line_feed l)) (sym (drop-cons text at 0 lt))
+
+pub blank-stops : (text : List ℕ) (at : ℕ) → at < length text → is_line_feed (get_or text at 0) ≡ false → is_blank (get_or text at 0) ≡ false
+    → false ≡ list_all is_blank (before_first is_line_feed (drop at text))
+blank-stops text at lt other not_blank =
+    blank-stops-at (get_or text at 0) (drop (suc at) text) other not_blank
+    ∙ ap (λ (l : List ℕ). list_all is_blank (before_first is_line_feed l)) (sym (drop-cons text at 0 lt))
+
+pub no_feed : (c : ℕ) → c ≢ 10 → is_line_feed c ≡ false
+no_feed c other = grind (arith, nat_tests)

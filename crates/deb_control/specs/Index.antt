@@ -13,7 +13,7 @@ first_field text = field_of (before_first is_line_feed text) (lines_in (after_fi
 abbrev pub field_from : List ℕ → ℕ → FieldText
 field_from text start = first_field (drop start text)
 
--- the places of a text at which its fields begin, in their order (this project's own)
+-- the places of a text at which its fields begin, in their order (Policy 5.1)
 pub record IsIndex (text : List ℕ) (starts : List ℕ) : Type 0 where
   pub fields : map (field_from text) starts ≡ fields_of (lines_in text)
   pub places : AllByRecursion (IsCharBoundary text) starts

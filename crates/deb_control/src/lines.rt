@@ -42,6 +42,28 @@ pub(crate) fn is_blank_line(line: &[u8]) -> bool
     line.iter().all(|b| *b == b' ' || *b == b'\t')
 }
 
+/// Whether a byte is a space or a tab.
+fn is_blank(b: u8) -> bool
+    ensures { result ≡ is_blank b }
+{
+    b == b' ' || b == b'\t'
+}
+
+/// Whether each byte of the first line, its line feed not counted, is a space or a tab.
+pub(crate) fn begins_blank(bytes: &[u8]) -> bool
+    ensures { result ≡ list_all is_blank (before_first is_line_feed bytes.now) }
+{
+    for b in bytes {
+        if *b == b'\n' {
+            return true;
+        }
+        if !is_blank(*b) {
+            return false;
+        }
+    }
+    true
+}
+
 /// What stands after a separator, if the bytes begin with one.
 fn after_separator(bytes: &[u8]) -> Option<&[u8]>
     ensures none { IfNone result (begins_separator bytes.now ≡ false) }

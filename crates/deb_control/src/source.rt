@@ -9,7 +9,7 @@ ghost use Rattle.deb_control.specs.Fields.{paragraph_limit};
 ghost use Rattle.deb_control.specs.Pieces.{IsLook, TakesPiece, AddsPiece, is_failed_look, EndsLine, AddsLine, is_cut_line, EndsLast, EndsCut, ReadsLine, ReadsRun};
 ghost use Rattle.deb_control.specs.Source.{CutsIf};
 
-use crate::lines::{is_blank_line, line_feed_place, split_line};
+use crate::lines::{begins_blank, is_blank_line, line_feed_place};
 use crate::paragraph::PARAGRAPH_LIMIT;
 use std::alloc::{AllocError, Global};
 use std::io::BufRead;
@@ -115,8 +115,7 @@ fn end_line(text: &mut Vec<u8>, start: usize, over: bool) -> LineRead
     requires { start ≤ vec_len text.old }
     ensures value { EndsLine result start over text.old.items text.new.items }
 {
-    let (line, _) = split_line(&text[start..]);
-    if is_blank_line(line) {
+    if begins_blank(&text[start..]) {
         text.truncate(start);
         return LineRead::Separator;
     }
