@@ -1,17 +1,17 @@
 -- Where the fields of a paragraph begin, found line by line and asked by name.
-use Rattle.std.proofs.Common.{◌≡◌, ◌∙◌, sym, ap, subst, refl, ℕ, ◌+◌, ◌-◌, zero, suc, ◌<◌, ◌≤◌, get_or, Bool, true, false, cond, ◌&&◌, not, List, [], ◌∷◌, ◌++◌, length, map, take, drop, drop-cons, append_assoc, append-nil, Option, Some, None, Ok, arith}
-use Rattle.std.specs.Prelude.{nat_lt, IsUtf8, is_none, find}
+use Rattle.std.proofs.Common.{◌≡◌, ◌∙◌, sym, ap, subst, refl, ℕ, ◌+◌, ◌-◌, zero, suc, ◌<◌, ◌≤◌, Bool, true, false, cond, ◌&&◌, not, List, [], ◌∷◌, ◌++◌, length, map, take, drop, append_assoc, append-nil, Option, Some, None, Ok, arith}
+use Rattle.std.specs.Prelude.{nat_lt, IsUtf8, is_none}
 use Rattle.std.specs.Option.{option_or}
 use Rattle.std.specs.List.{AllByRecursion, before_first, after_first, concat, position_or_len}
 use Rattle.std.specs.Str.{IsCharBoundary, is_utf8}
 use Rattle.std.specs.Char.{to_ascii_lowercase}
 use Rattle.std.proofs.Math.Seq.{drop-append_seam}
-use Rattle.std.proofs.lemmas.List.{map-append, length-map, take-append-drop, length-append, drop_all}
+use Rattle.std.proofs.lemmas.List.{map-append, length-map, take-append-drop, length-append}
 use Rattle.std.proofs.lemmas.Slice.Eq.{bytes_eq-Decides}
 use Rattle.std.proofs.lemmas.Str.{IsCharBoundary-at_seam}
 use Rattle.deb_control.specs.declared.fault.ControlFaultKind.{ControlFaultKind}
 use Rattle.deb_control.specs.Lines.{is_line_feed, is_continuation, is_nonempty, lines_in, lines_of, body_of}
-use Rattle.deb_control.specs.Fields.{FieldText, is_colon, name_of, field_of, fields_of, has_name, field_named, first_fault, line_fault, fault_of, outcome, reading_of, begin_with_field, takes_memory, paragraph_limit}
+use Rattle.deb_control.specs.Fields.{FieldText, is_colon, name_of, field_of, fields_of, has_name, first_fault, line_fault, fault_of, outcome, reading_of, begin_with_field, takes_memory, paragraph_limit}
 use Rattle.deb_control.specs.Index.{IsIndex, field_from, first_field}
 use Rattle.deb_control.proofs.OwnedLemmas.{fields_of-first, fields_of-more, fields_of-none}
 
@@ -23,9 +23,6 @@ pub record IsHalfIndexed (text left : List ℕ) (starts : List ℕ) : Type 0 whe
   pub is : text ≡ front ++ left
   pub fields : map (field_from text) starts ++ fields_of (lines_in left) ≡ fields_of (lines_in text)
   pub places : AllByRecursion (IsCharBoundary text) starts
-
-pub half-indexed-start : (text : List ℕ) → IsHalfIndexed text text []
-half-indexed-start text = record { front = []; is = refl; fields = refl; places = tt }
 
 all-behind : {X : Type 0} (P : X → Type 0) (xs : List X) (x : X) → AllByRecursion P xs → P x → AllByRecursion P (xs ++ x ∷ [])
 all-behind P [] x all here = (here, tt)
@@ -115,34 +112,6 @@ takes_memory-read lines found is some =
     go true utf8 fault e begun = absurd cc
     go false false fault e begun = absurd cc
     go false true fault e begun = begun e
-
--- ---- a field that is asked by its name
-
-one-after : (n : ℕ) → suc n ≡ n + 1
-one-after n = omega arith
-
-pub named-step : (name : List ℕ) (text starts : List ℕ) (at start : ℕ) → at < length starts → start ≡ get_or starts at start → has_name name (field_from text start) ≡ false
-    → field_named name (map (field_from text) (drop (at + 1) starts)) ≡ field_named name (map (field_from text) (drop at starts))
-unfolding field_named
-named-step name text starts at start lt is other =
-    sym (ap (λ (l : List ℕ). find (has_name name) (map (field_from text) l)) (drop-cons starts at start lt ∙ (λ i. sym is i ∷ drop (one-after at i) starts))
-    ∙ ap (λ b. cond b (Some (field_from text start)) (find (has_name name) (map (field_from text) (drop (at + 1) starts)))) other)
-
-pub named-found : (name : List ℕ) (text starts : List ℕ) (at start : ℕ) → at < length starts → start ≡ get_or starts at start → has_name name (field_from text start) ≡ true
-    → field_named name (map (field_from text) (drop at starts)) ≡ Some (field_from text start)
-unfolding field_named
-named-found name text starts at start lt is same =
-    ap (λ (l : List ℕ). find (has_name name) (map (field_from text) l)) (drop-cons starts at start lt ∙ (λ i. sym is i ∷ drop (one-after at i) starts))
-    ∙ ap (λ b. cond b (Some (field_from text start)) (find (has_name name) (map (field_from text) (drop (at + 1) starts)))) same
-
-pub named-none : (name : List ℕ) (text starts : List ℕ) (at : ℕ) → length starts ≤ at → field_named name (map (field_from text) (drop at starts)) ≡ None
-unfolding field_named
-named-none name text starts at le = ap (λ (l : List ℕ). find (has_name name) (map (field_from text) l)) (drop_all at starts le)
-
-pub place-at : (text starts : List ℕ) (at start : ℕ) → AllByRecursion (IsCharBoundary text) starts → at < length starts → start ≡ get_or starts at start → IsCharBoundary text start
-place-at text [] at start all lt is = absurd (omega (arith, lt))
-place-at text (first ∷ starts) zero start all lt is = subst (IsCharBoundary text) (sym is) all.0
-place-at text (first ∷ starts) (suc at) start all lt is = place-at text starts at start all.1 (omega (arith, lt)) is
 
 -- ---- a text that begins with a name
 

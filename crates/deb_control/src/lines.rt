@@ -34,19 +34,19 @@ pub(crate) fn split_text(text: &str) -> (&str, &str)
     }
 }
 
-/// Whether each byte of a line, its line feed not counted, is a space or a tab: such a line, an empty one
-/// too, separates paragraphs (Debian Policy 5.1).
-pub(crate) fn is_blank_line(line: &[u8]) -> bool
-    ensures { result ≡ list_all is_blank line.now }
-{
-    line.iter().all(|b| *b == b' ' || *b == b'\t')
-}
-
 /// Whether a byte is a space or a tab.
 fn is_blank(b: u8) -> bool
     ensures { result ≡ is_blank b }
 {
     b == b' ' || b == b'\t'
+}
+
+/// Whether each byte of a line, its line feed not counted, is a space or a tab: such a line, an empty one
+/// too, separates paragraphs (Debian Policy 5.1).
+pub(crate) fn is_blank_line(line: &[u8]) -> bool
+    ensures { result ≡ list_all is_blank line.now }
+{
+    line.iter().all(|b| is_blank(*b))
 }
 
 /// Whether each byte of the first line, its line feed not counted, is a space or a tab.

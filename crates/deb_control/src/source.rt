@@ -1,5 +1,5 @@
 //! A reader that reports whether it failed, and of which a bounded number of bytes is read, line by line.
-ghost use Rattle.std.specs.Prelude.{◌≡◌, ◌≢◌, ◌+◌, ◌≤◌, ◌<◌, [], false, true, length, take, drop, IfOk, IfSome, OnErr, OnOk, vec_len};
+ghost use Rattle.std.specs.Prelude.{◌≡◌, ◌≢◌, ◌+◌, ◌≤◌, ◌<◌, [], ◌++◌, false, true, length, take, drop, IfOk, IfSome, OnErr, OnOk, vec_len};
 ghost use Rattle.std.specs.List.{list_any, list_all};
 ghost use Rattle.std.specs.Io.KnownBytes.{Keeps};
 ghost use Rattle.deb_control.specs.declared.source.LineRead.TheVariants.{Failed as FailedLine, End as NoLine, Separator, Whole, Long};
@@ -14,6 +14,9 @@ use crate::paragraph::PARAGRAPH_LIMIT;
 use std::alloc::{AllocError, Global};
 use std::io::BufRead;
 use std::marker::Model;
+
+/// More bytes than most paragraphs have: room for so many is asked for at once.
+const USUAL_SIZE: usize = 2048;
 
 /// What was taken of the bytes that a reader shows.
 #[derive(Clone, Copy)]
@@ -83,6 +86,18 @@ fn look(shown: &[u8], most: usize) -> (usize, Shown)
     }
 }
 
+/// Appends bytes to a text, which gets room for most paragraphs with the first of them. The error is that there is no memory
+/// for it.
+fn append(text: &mut Vec<u8>, more: &[u8]) -> Result<(), AllocError>
+    ensures value { OnOk result (text.new.items ≡ text.old.items ++ more.now) }
+    ensures kept { OnErr result (text.new.items ≡ text.old.items) }
+{
+    if text.is_empty() {
+        text.reserve(USUAL_SIZE)?;
+    }
+    text.extend_from_slice(more)
+}
+
 /// Appends to a text what the reader shows, up to and including the first line feed and at most so many bytes. The error is
 /// that there is no memory for it; nothing was taken then. An interrupted read is a failed one too.
 fn append_shown<R: BufRead>(
@@ -103,7 +118,7 @@ fn append_shown<R: BufRead>(
         return Ok(Shown::End);
     }
     let (count, shown) = look(available, most);
-    text.extend_from_slice(&available[..count])?;
+    append(text, &available[..count])?;
     reader.consume(count);
     Ok(shown)
 }
