@@ -7,8 +7,6 @@ use Rattle.std.specs.FinMap as finite
 use Rattle.std.proofs.lemmas.List.{drop_all}
 use Rattle.std.proofs.lemmas.List.Folds.{list_any-append}
 use Rattle.std.proofs.lemmas.Cmp.{nat_list_eq_equiv}
-use Rattle.std.proofs.lemmas.Slice.Eq.{bytes_eq-Decides}
-use Rattle.std.proofs.lemmas.Bool.Decides.{same_from_decides}
 use Rattle.deb_relations.specs.Satisfaction.{is_among}
 use Rattle.deb_relations.specs.declared.arch.ArchWords.{ArchWords}
 use Rattle.deb_text.specs.Text.{pair_cmp}
@@ -27,7 +25,7 @@ use Rattle.wb_merge.specs.Steps.{IsSetAt, Key, record_at, counted}
 use Rattle.wb_merge.proofs.CountLemmas.{IsHalfMerged, half_merged-done, half_merged-step, plus}
 use Rattle.wb_merge.proofs.FoundLemmas.{found-rows}
 use Rattle.wb_merge.proofs.MergeLemmas.{half_merged, names-apart, recorded-apart, recorded-names-any, unnamed}
-use Rattle.wb_merge.proofs.NameLemmas.{IsApart, append-apart, bytes_eq-is, filter-any, filter-apart, keys-apart, none-is, pair-is}
+use Rattle.wb_merge.proofs.NameLemmas.{IsApart, append-apart, bytes_eq-is, bytes_eq-turned, filter-any, filter-apart, keys-apart, none-is, pair-is}
 use Rattle.wb_merge.proofs.RecordLemmas.{set-inserted, set-kept, set-removed}
 use Rattle.wb_merge.proofs.ScratchLemmas.{listed-kept, listed_in-filter}
 use Rattle.wb_archive.specs.Decides.{AreNamesToDecide, listing_at, names_with, record_decided, set_record}
@@ -137,11 +135,6 @@ with-covers arch now names of name e =
     split : (a b : Bool) → (a || (not a && b)) ≡ false → (a ≡ false) × (b ≡ false)
     split true b e = absurd cc
     split false b e = (refl, e)
-
-bytes_eq-turned : (s t : List ℕ) → bytes_eq s t ≡ bytes_eq t s
-bytes_eq-turned s t =
-    let turned = bytes_eq-Decides t s in
-    same_from_decides (bytes_eq s t) (bytes_eq t s) (bytes_eq-Decides s t) (λ e. sym (turned.0 e), λ e. turned.1 (sym e))
 
 -- the names that are decided, where the set is that of those that have a record
 pub named-to-decide : (now : Contents) (arch : List ℕ) (recorded listed names : List (List ℕ)) (known : List ℕ → Bool)

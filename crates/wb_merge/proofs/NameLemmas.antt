@@ -11,6 +11,7 @@ use Rattle.std.proofs.lemmas.Slice.Eq.{bytes_eq-Decides}
 use Rattle.std.specs.FinMap as finite
 use Rattle.std.specs.FinMap.Entries.{below_all, is_sorted}
 use Rattle.std.proofs.lemmas.Bool.{and_right, false_from_ne_true, or_right}
+use Rattle.std.proofs.lemmas.Bool.Decides.{same_from_decides}
 use Rattle.deb_text.specs.Text.{text_cmp, pair_cmp}
 use Rattle.deb_text.proofs.KeyLemmas.{pair_cmp-same, eq_by_cmp-same}
 use Rattle.wb_merge.specs.Steps.{Key}
@@ -23,6 +24,12 @@ none-is (Some x) e = absurd cc
 
 pub bytes_eq-is : (x y : List ℕ) → bytes_eq x y ≡ true → x ≡ y
 bytes_eq-is x y = (bytes_eq-Decides x y).0
+
+-- the same, the other way round
+pub bytes_eq-turned : (s t : List ℕ) → bytes_eq s t ≡ bytes_eq t s
+bytes_eq-turned s t =
+    let turned = bytes_eq-Decides t s in
+    same_from_decides (bytes_eq s t) (bytes_eq t s) (bytes_eq-Decides s t) (λ e. sym (turned.0 e), λ e. turned.1 (sym e))
 
 -- ---- keys
 

@@ -26,7 +26,7 @@ use Rattle.wb_merge.specs.Listing.{ArchiveListing, best_from, better, built_as, 
 use Rattle.wb_merge.specs.Scratch.{source_columns, source_row_at, binary_columns, binary_row_at, kept_of, kept_reading, kept_behind, present, kept_sources, kept_binaries, row_of_kept, listed_in, version_row_cmp, is_build_of, build_of, build_cmp, built_in, versions_in, available_in, listing_of_kept, listing_kept}
 use Rattle.wb_merge.proofs.AvailableLemmas.{more-of, none-yet}
 use Rattle.wb_merge.proofs.FoldLemmas.{map-get}
-use Rattle.wb_merge.proofs.NameLemmas.{bytes_eq-is}
+use Rattle.wb_merge.proofs.NameLemmas.{bytes_eq-is, bytes_eq-turned}
 
 -- ---- filters, and the best of a list
 
@@ -193,13 +193,10 @@ kept_binaries-rows arch text =
 
 -- ---- the listing of what is kept
 
-bytes_eq-turned : (x y : List ℕ) → bytes_eq x y ≡ true → bytes_eq y x ≡ true
-bytes_eq-turned x y e = subst (λ z. bytes_eq z x ≡ true) (bytes_eq-is x y e) (subst (λ z. bytes_eq x z ≡ true) (sym (bytes_eq-is x y e)) e)
-
 own-installable : (arch : ArchWords) (row : BinaryRow) → bytes_eq arch.name row.arch ≡ true
     → is_installable_on arch row ≡ true
 unfolding is_installable_on
-own-installable arch row e = rw (bytes_eq-turned arch.name row.arch e) refl
+own-installable arch row e = rw (bytes_eq-turned row.arch arch.name ∙ e) refl
 
 builds-kept : (arch : ArchWords) (passed : ℕ) (rows : List BinaryRow) (name : List ℕ)
     → map built_as (filter (is_built_from arch name) rows)

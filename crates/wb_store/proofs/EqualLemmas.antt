@@ -40,12 +40,6 @@ equal-Text s t =
 pub nat_eq-turned : (m n : ℕ) → nat_eq m n ≡ nat_eq n m
 nat_eq-turned m n = grind (arith, nat_tests)
 
--- the same, the other way round
-pub bytes_eq-turned : (s t : List ℕ) → bytes_eq s t ≡ bytes_eq t s
-bytes_eq-turned s t =
-    let turned = bytes_eq-Decides t s in
-    same_from_decides (bytes_eq s t) (bytes_eq t s) (bytes_eq-Decides s t) (λ e. sym (turned.0 e), λ e. turned.1 (sym e))
-
 int_cmp-numbers : (m n : ℕ) → int_cmp (pos m) (pos n) ≡ nat_cmp m n
 int_cmp-numbers m n = grind (arith, nat_tests, ints)
 

@@ -20,6 +20,7 @@ use Rattle.sqlite_value.proofs.OrderLemmas.{value_cmp-Text}
 use Rattle.sqlite_keyed.proofs.ListLemmas.{map-map}
 use Rattle.deb_text.specs.Text.{text_cmp}
 use Rattle.deb_text.proofs.KeyLemmas.{text_cmp_total}
+use Rattle.wb_merge.proofs.NameLemmas.{bytes_eq-turned}
 use Rattle.wb_sql.specs.Among.{rows_in}
 use Rattle.wb_sql.specs.Queries.{query_of, outputs, Answers}
 use Rattle.wb_sql.specs.ScratchStatements as sql
@@ -33,7 +34,6 @@ use Rattle.wb_store.specs.Merging.{ListsNames, Scratch, stored_source}
 use Rattle.wb_store.specs.ScratchLookups.{AreNames, AreReadable, DistinctNames}
 use Rattle.wb_store.specs.Stands.{StandsWith}
 use Rattle.wb_store.proofs.ArchLemmas.{name_test}
-use Rattle.wb_store.proofs.EqualLemmas.{bytes_eq-turned}
 
 -- the bytes of a text
 abbrev text_in : Value → List ℕ
