@@ -7,13 +7,13 @@ ghost use Rattle.wb_office.specs.Answers.{AreOf, IsNamed};
 ghost use Rattle.wb_store.specs.Finds.{Finds};
 ghost use Rattle.wb_office.specs.Sought.{key_named, office_of};
 
-pub(crate) mod found;
+mod found;
 mod names;
 mod part;
 
 use deb_text::Text;
-pub(crate) use found::Found;
 use found::find;
+pub(crate) use found::{Found, keyed};
 use names::{Names, key_of};
 pub(crate) use part::part_of;
 use sqlite::Alter;

@@ -23,7 +23,7 @@ ghost use Rattle.wb_office.specs.Rows.{CarriesRows, HaveFit, IsAccepted, WritesR
 
 use crate::answer::{Answered, Failure};
 use crate::carry::{CarryError, failure};
-use crate::named::found::keyed;
+use crate::named::keyed;
 use crate::rows::put_all;
 use deb_text::Text;
 use sqlite::Alter;
