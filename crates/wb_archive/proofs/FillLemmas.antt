@@ -1,7 +1,7 @@
 -- A list that is read into a table, paragraph by paragraph.
-use Rattle.std.proofs.Common.{◌≡◌, ℕ, ◌+◌, ◌<◌, Bool, true, false, cond, List, [], ◌∷◌, ◌++◌, filter, Option, None, Some, Result, Ok, Err, refl, sym, ap, subst, ◌∙◌, inl, inr, append-nil, append_assoc, arith}
+use Rattle.std.proofs.Common.{◌≡◌, ℕ, ◌+◌, ◌<◌, Bool, true, false, cond, List, [], ◌∷◌, ◌++◌, filter, Option, None, Some, Result, Ok, Err, refl, sym, ap, subst, ◌∙◌, not, ◌&&◌, inl, inr, append-nil, append_assoc, arith}
 use Rattle.std.specs.Prelude.{IfSome}
-use Rattle.std.specs.List.{AllByRecursion}
+use Rattle.std.specs.List.{AllByRecursion, dedup, dedup_from}
 use Rattle.std.specs.Result.{result_map_both}
 use Rattle.std.proofs.lemmas.List.Elements.{filter-append}
 use Rattle.deb_control.specs.declared.fault.ControlFault.{ControlFault}
@@ -13,8 +13,9 @@ use Rattle.wb_states.specs.declared.refusal.ListKind.{ListKind}
 use Rattle.wb_states.specs.declared.scratch.SourceRow.{SourceRow}
 use Rattle.wb_states.specs.declared.scratch.BinaryRow.{BinaryRow}
 use Rattle.wb_merge.specs.Rows.{onto_rows}
+use Rattle.wb_merge.specs.Scratch.{present}
 use Rattle.wb_archive.specs.declared.fault.BadList.{BadList}
-use Rattle.wb_archive.specs.Fills.{WithRows, binaries_behind, binary_kept, is_binary_kept, is_source_wanted, last_behind, last_kept, sources_wanted}
+use Rattle.wb_archive.specs.Fills.{WithRows, binaries_wanted, binary_kept, is_binary_kept, is_binary_wanted, is_repeat, is_source_wanted, last_kept, sources_wanted}
 use Rattle.wb_archive.specs.Reads.{GivesRow, IsRefused, MayStandWhere, ReadsTo, kept_at}
 use Rattle.wb_archive.specs.Tables.{IsAfterBinaries}
 use Rattle.wb_archive.proofs.ReadLemmas.{kept-fields}
@@ -134,6 +135,44 @@ module _ {R X Y : Type 0} (MayStand : R → ReaderState → Type 0) (row_at : �
 
 pub sources-split : (archs : List ArchWords) (xs ys : List SourceRow) → sources_wanted archs (xs ++ ys) ≡ sources_wanted archs xs ++ sources_wanted archs ys
 sources-split archs xs ys = filter-append (is_source_wanted archs) xs ys
+
+-- those that are kept, after the row that was kept last
+abbrev pub binaries_behind : (List ℕ → Bool) → Option BinaryRow → List (Option BinaryRow) → List BinaryRow
+binaries_behind waited last [] = []
+binaries_behind waited last (row ∷ rows) = binary_kept waited last row ++ binaries_behind waited (last_kept waited last row) rows
+
+-- the row that was kept last, once they were read
+abbrev pub last_behind : (List ℕ → Bool) → Option BinaryRow → List (Option BinaryRow) → Option BinaryRow
+last_behind waited last [] = last
+last_behind waited last (row ∷ rows) = last_behind waited (last_kept waited last row) rows
+
+behind-some : (waited : List ℕ → Bool) (last : BinaryRow) (rows : List (Option BinaryRow))
+    → last ∷ binaries_behind waited (Some last) rows ≡ dedup_from (is_repeat waited) last (filter (is_binary_wanted waited) (present rows))
+behind-some waited last [] = refl
+behind-some waited last (None ∷ rows) = behind-some waited last rows
+behind-some waited last (Some row ∷ rows) = go (behind-some waited row rows) (behind-some waited last rows) (is_binary_wanted waited row) (is_repeat waited row last) refl where
+  behind : BinaryRow → List BinaryRow
+  behind last = dedup_from (is_repeat waited) last (filter (is_binary_wanted waited) (present rows))
+
+  go : row ∷ binaries_behind waited (Some row) rows ≡ behind row → last ∷ binaries_behind waited (Some last) rows ≡ behind last
+      → (wanted repeats : Bool) → is_repeat waited row last ≡ repeats
+      → last ∷ (cond (wanted && not repeats) (row ∷ []) [] ++ binaries_behind waited (cond (wanted && not repeats) (Some row) (Some last)) rows)
+      ≡ dedup_from (is_repeat waited) last (cond wanted (row ∷ filter (is_binary_wanted waited) (present rows)) (filter (is_binary_wanted waited) (present rows)))
+  go one other true true e = other ∙ ap (λ b. cond b (behind last) (last ∷ behind row)) (sym e)
+  go one other true false e = ap (λ (l : List BinaryRow). last ∷ l) one ∙ ap (λ b. cond b (behind last) (last ∷ behind row)) (sym e)
+  go one other false repeats e = other
+
+-- row by row as of the whole list
+pub behind-none : (waited : List ℕ → Bool) (rows : List (Option BinaryRow)) → binaries_behind waited None rows ≡ binaries_wanted waited rows
+behind-none waited [] = refl
+behind-none waited (None ∷ rows) = behind-none waited rows
+behind-none waited (Some row ∷ rows) = go (behind-some waited row rows) (behind-none waited rows) (is_binary_wanted waited row) where
+  go : row ∷ binaries_behind waited (Some row) rows ≡ dedup_from (is_repeat waited) row (filter (is_binary_wanted waited) (present rows))
+      → binaries_behind waited None rows ≡ binaries_wanted waited rows → (wanted : Bool)
+      → cond (wanted && true) (row ∷ []) [] ++ binaries_behind waited (cond (wanted && true) (Some row) None) rows
+      ≡ dedup (is_repeat waited) (cond wanted (row ∷ filter (is_binary_wanted waited) (present rows)) (filter (is_binary_wanted waited) (present rows)))
+  go one other true = one
+  go one other false = other
 
 pub binaries-split : (waited : List ℕ → Bool) (last : Option BinaryRow) (rows : List (Option BinaryRow)) (row : Option BinaryRow)
     → binaries_behind waited last (rows ++ row ∷ []) ≡ binaries_behind waited last rows ++ binary_kept waited (last_behind waited last rows) row

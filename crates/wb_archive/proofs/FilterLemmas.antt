@@ -2,6 +2,7 @@
 use Rattle.std.proofs.Common.{◌≡◌, ℕ, Bool, true, false, cond, not, ◌||◌, ◌&&◌, List, [], ◌∷◌, ◌++◌, length, filter, map, bytes_eq, Option, Some, None, Result, Ok, Err, refl, sym, ap, subst, ◌∙◌, inl, inr, arith}
 use Rattle.std.specs.Prelude.{◌==◌, IfSome}
 use Rattle.std.specs.List.{AllByRecursion, list_any}
+use Rattle.std.specs.Option.{option_map_or}
 use Rattle.std.specs.FinMap as finite
 use Rattle.std.proofs.lemmas.Bool.Decides.{nat_tests}
 use Rattle.std.proofs.lemmas.Cmp.{nat_list_eq_equiv}
@@ -30,8 +31,9 @@ use Rattle.wb_merge.proofs.FoundLemmas.{record-given}
 use Rattle.wb_merge.proofs.MergeLemmas.{merged-get}
 use Rattle.wb_merge.proofs.NameLemmas.{bytes_eq-is}
 use Rattle.wb_merge.proofs.ScratchLemmas.{built-kept, listed-kept, listed_in-filter, versions-kept}
-use Rattle.wb_archive.specs.Fills.{binaries_behind, binaries_wanted, is_binary_kept, is_repeat, is_same_build, is_source_wanted}
+use Rattle.wb_archive.specs.Fills.{binaries_wanted, is_binary_kept, is_repeat, is_same_build, is_source_wanted}
 use Rattle.wb_archive.specs.Waited.{AreAllWaitedFor, AreWaitedFor}
+use Rattle.wb_archive.proofs.FillLemmas.{behind-none, binaries_behind}
 
 -- ---- what is wanted
 
@@ -152,7 +154,7 @@ same-number : (m n : ℕ) → (m == n) ≡ true → m ≡ n
 same-number m n e = grind (arith, nat_tests)
 
 repeat-covered : (waited : List ℕ → Bool) (name : List ℕ) (best : Option Built) (last : Option BinaryRow) (row : BinaryRow) → IsCovered name best last
-    → is_repeat waited last row ≡ true → is_build_of name row ≡ true → Some (better built_cmp best (build_of row)) ≡ best
+    → option_map_or (is_repeat waited row) last false ≡ true → is_build_of name row ≡ true → Some (better built_cmp best (build_of row)) ≡ best
 repeat-covered waited name best None row covered repeats build = absurd cc
 repeat-covered waited name best (Some last) row covered repeats build =
     let same = and-left (is_same_build last row) (not (waited row.name)) repeats in
@@ -252,7 +254,9 @@ module _ (arch : ArchWords) (archs : List ArchWords) (there : IsIn arch archs) (
 
   built-same : (name : List ℕ) → built_in (binaries_wanted waited rows) name ≡ built_in (present rows) name
   unfolding built_in
-  built-same name = repeats-built waited name rows None None tt
+  built-same name =
+      ap (λ (l : List BinaryRow). best_from built_cmp None (map build_of (filter (is_build_of name) l))) (sym (behind-none waited rows))
+      ∙ repeats-built waited name rows None None tt
 
   cut-built : cut.built ≡ whole.built
   cut-built = finite.same_map text_cmp_total text_cmp-same _ _ (λ name.
@@ -262,7 +266,9 @@ module _ (arch : ArchWords) (archs : List ArchWords) (there : IsIn arch archs) (
 
   versions-same : (name : List ℕ) → waited name ≡ true → versions_in (binaries_wanted waited rows) name ≡ versions_in (present rows) name
   unfolding versions_in
-  versions-same name e = ap (map (λ (row : BinaryRow). row.version)) (repeats-named waited name e rows None)
+  versions-same name e =
+      ap (λ (l : List BinaryRow). map (λ (row : BinaryRow). row.version) (filter (λ row. bytes_eq name row.name) l)) (sym (behind-none waited rows))
+      ∙ ap (map (λ (row : BinaryRow). row.version)) (repeats-named waited name e rows None)
 
   cut-versions : (name : List ℕ) → waited name ≡ true → versions_of cut.available name ≡ versions_of whole.available name
   cut-versions name e =

@@ -1,12 +1,13 @@
 -- What stands in the tables of a merge once a list was read into them.
-use Rattle.std.specs.Prelude.{Bool, false, not, ◌||◌, ◌&&◌, ◌==◌, if◌then◌else◌, ℕ, bytes_eq, List, [], ◌∷◌, ◌++◌, filter, Option, Some, None, Result, Ok, Err}
-use Rattle.std.specs.List.{list_any}
+use Rattle.std.specs.Prelude.{Bool, false, not, ◌||◌, ◌&&◌, ◌==◌, if◌then◌else◌, ℕ, bytes_eq, List, [], ◌∷◌, filter, Option, Some, None, Result, Ok, Err}
+use Rattle.std.specs.List.{dedup, list_any}
+use Rattle.std.specs.Option.{option_map_or}
 use Rattle.deb_relations.specs.declared.arch.ArchWords.{ArchWords}
 use Rattle.wb_states.specs.declared.refusal.Refusal.{Refusal}
 use Rattle.wb_states.specs.declared.scratch.SourceRow.{SourceRow}
 use Rattle.wb_states.specs.declared.scratch.BinaryRow.{BinaryRow}
 use Rattle.wb_merge.specs.Listing.{is_listed}
-use Rattle.wb_merge.specs.Scratch.{row_of_kept}
+use Rattle.wb_merge.specs.Scratch.{present, row_of_kept}
 use Rattle.wb_archive.specs.declared.fault.BadList.{BadList}
 
 -- whether a row can matter to a merge of these architectures: one of them lists its source package
@@ -26,14 +27,19 @@ abbrev pub is_same_build : BinaryRow → BinaryRow → Bool
 is_same_build one other =
     (one.own && other.own) && (bytes_eq one.source other.source && (bytes_eq one.source_version other.source_version && one.number == other.number))
 
--- whether a row says of a build what the row that was kept last says, and no record can wait for its name
-abbrev pub is_repeat : (List ℕ → Bool) → Option BinaryRow → BinaryRow → Bool
-is_repeat waited None row = false
-is_repeat waited (Some last) row = is_same_build last row && not (waited row.name)
+-- whether a row says of a build what the row before it says, and no record can wait for its name
+abbrev pub is_repeat : (List ℕ → Bool) → BinaryRow → BinaryRow → Bool
+is_repeat waited row before = is_same_build before row && not (waited row.name)
 
--- whether a row is kept, after the row that was kept last: it can matter, and does not only repeat that one
+-- of what is kept of a Packages list those rows that can matter, without those that only repeat the row before them
+abbrev pub binaries_wanted : (List ℕ → Bool) → List (Option BinaryRow) → List BinaryRow
+binaries_wanted waited rows = dedup (is_repeat waited) (filter (is_binary_wanted waited) (present rows))
+
+-- ---- the same, row by row
+
+-- whether a row is kept, after the row that was kept last, if there is one: it can matter, and does not only repeat that one
 abbrev pub is_binary_kept : (List ℕ → Bool) → Option BinaryRow → BinaryRow → Bool
-is_binary_kept waited last row = is_binary_wanted waited row && not (is_repeat waited last row)
+is_binary_kept waited last row = is_binary_wanted waited row && not (option_map_or (is_repeat waited row) last false)
 
 -- the row, if there is one and it is kept
 abbrev pub binary_kept : (List ℕ → Bool) → Option BinaryRow → Option BinaryRow → List BinaryRow
@@ -45,19 +51,7 @@ abbrev pub last_kept : (List ℕ → Bool) → Option BinaryRow → Option Binar
 last_kept waited last None = last
 last_kept waited last (Some row) = if is_binary_kept waited last row then Some row else last
 
--- of what is kept of a Packages list those rows that are kept, after the row that was kept last
-abbrev pub binaries_behind : (List ℕ → Bool) → Option BinaryRow → List (Option BinaryRow) → List BinaryRow
-binaries_behind waited last [] = []
-binaries_behind waited last (row ∷ rows) = binary_kept waited last row ++ binaries_behind waited (last_kept waited last row) rows
-
--- the row that was kept last, once it was seen which of some rows are kept
-abbrev pub last_behind : (List ℕ → Bool) → Option BinaryRow → List (Option BinaryRow) → Option BinaryRow
-last_behind waited last [] = last
-last_behind waited last (row ∷ rows) = last_behind waited (last_kept waited last row) rows
-
--- of what is kept of a Packages list those rows that can matter, without those that only repeat the row before them
-abbrev pub binaries_wanted : (List ℕ → Bool) → List (Option BinaryRow) → List BinaryRow
-binaries_wanted waited rows = binaries_behind waited None rows
+-- ---- a list that was read, or is refused
 
 -- what is so of rows, if there are some and not a refusal
 abbrev pub WithRows : {X : Type 0} → Result X Refusal → (X → Type 0) → Type 0

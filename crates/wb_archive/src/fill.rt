@@ -1,11 +1,12 @@
 //! A list, read into a table paragraph by paragraph.
-ghost use Rattle.std.specs.Prelude.{◌≡◌, ◌++◌, ◌∷◌, ◌<◌, ◌^◌, [], IfOk, IfErr, IfSome, OnOk};
+ghost use Rattle.std.specs.Prelude.{◌≡◌, ◌++◌, ◌∷◌, ◌<◌, ◌^◌, [], false, IfOk, IfErr, IfSome, OnOk};
 ghost use Rattle.std.specs.BTreeSet.{contains};
+ghost use Rattle.std.specs.Option.{option_map_or};
 ghost use Rattle.deb_text.specs.Text.{text_cmp};
 ghost use Rattle.wb_states.specs.declared.refusal.ListKind.TheVariants.{Packages, Sources};
 ghost use Rattle.wb_merge.specs.Scratch.{binary_row_at, source_row_at};
 ghost use Rattle.wb_archive.specs.Faults.{StopsAs};
-ghost use Rattle.wb_archive.specs.Fills.{IsFilled, binaries_wanted, binary_kept, is_binary_wanted, is_repeat, is_same_build, is_source_wanted, last_kept, sources_wanted};
+ghost use Rattle.wb_archive.specs.Fills.{IsFilled, binaries_wanted, binary_kept, is_binary_kept, is_binary_wanted, is_repeat, is_same_build, is_source_wanted, last_kept, sources_wanted};
 ghost use Rattle.wb_archive.specs.Reads.{IsRefused, MayStandWhere, packages_at, sources_at};
 ghost use Rattle.wb_archive.specs.Tables.{Tables, IsAfterBinaries, IsAfterSources, with_binaries, with_sources};
 
@@ -67,12 +68,19 @@ fn is_same_build(one: &BinaryRow, other: &BinaryRow) -> bool
 
 /// Whether the row says of a build what the row that was kept last says, and no record can wait for its name.
 fn is_repeat(row: &BinaryRow, last: &Option<BinaryRow>, waited: &BTreeSet<Text>) -> bool
-    ensures { result ≡ is_repeat (contains text_cmp waited.now) last.now row.now }
+    ensures { result ≡ option_map_or (is_repeat (contains text_cmp waited.now) row.now) last.now false }
 {
     match last {
         Some(last) => is_same_build(last, row) && !waited.contains(&row.name),
         None => false,
     }
+}
+
+/// Whether the row is put into its table: it can matter, and does not only repeat the row that was kept last.
+fn is_binary_kept(row: &BinaryRow, last: &Option<BinaryRow>, waited: &BTreeSet<Text>) -> bool
+    ensures { result ≡ is_binary_kept (contains text_cmp waited.now) last.now row.now }
+{
+    is_binary_wanted(row, waited) && !is_repeat(row, last, waited)
 }
 
 /// Puts what is kept of a paragraph into its table, if anything is kept of it, it can matter, and it does not only repeat
@@ -95,7 +103,7 @@ fn keep_binary<T: MergeTables>(
     let Some(row) = row else {
         return Ok(());
     };
-    if is_binary_wanted(&row, waited) && !is_repeat(&row, last, waited) {
+    if is_binary_kept(&row, last, waited) {
         asked(tables.add_binary(&row))?;
         *last = Some(row);
     }
@@ -134,9 +142,10 @@ pub fn fill_sources<T: MergeTables, R: ReadParagraphs>(
 
 /// Reads the Packages list of an architecture, of which no paragraph was read before, into its table, which is empty: of
 /// its rows those that can matter, the architecture's own and those whose names are waited for, but none that says of a
-/// build only what the row before it says. Each paragraph is read and checked all the same, and the first faulty one refuses the list, or that its reader broke; the table then has
-/// some rows. The errors are `Memory` if memory ran out, or if the list has 2^63 - 1 paragraphs or more, which cannot
-/// all be numbered, and else the fault of the tables (this project's own).
+/// build only what the row before it says. Each paragraph is read and checked all the same, and the first faulty one
+/// refuses the list, or that its reader broke; the table then has some rows. The errors are `Memory` if memory ran out, or
+/// if the list has 2^63 - 1 paragraphs or more, which cannot all be numbered, and else the fault of the tables (this
+/// project's own).
 pub fn fill_binaries<T: MergeTables, R: ReadParagraphs>(
     alloc: Global,
     tables: &mut T,

@@ -1,12 +1,12 @@
-use Rattle.std.proofs.Common.{◌+◌, ◌++◌, List, Option, None, ap, sym, ◌∙◌, refl, subst, rules}
+use Rattle.std.proofs.Common.{◌+◌, [], ◌∷◌, ◌++◌, Option, None, ap, sym, ◌∙◌, refl, subst, rules}
 use Rattle.std.specs.BTreeSet.{contains}
 use Rattle.deb_text.specs.Text.{text_cmp}
 use Rattle.wb_states.specs.declared.refusal.ListKind.TheVariants.{Packages}
 use Rattle.wb_states.specs.declared.scratch.BinaryRow.{BinaryRow}
 use Rattle.wb_merge.specs.Scratch.{binary_row_at}
-use Rattle.wb_archive.specs.Fills.{binaries_wanted, binary_kept, last_behind, last_kept}
+use Rattle.wb_archive.specs.Fills.{binaries_wanted, binary_kept, last_kept}
 use Rattle.wb_archive.specs.Tables.{with_binaries}
-use Rattle.wb_archive.proofs.FillLemmas.{binary-after, binaries-split, binary-numbered, half-ended, half-refused, half-start, half-step, last-split}
+use Rattle.wb_archive.proofs.FillLemmas.{behind-none, binary-after, binaries-split, binary-numbered, half-ended, half-refused, half-start, half-step, last-split}
 use Rattle.wb_archive.proofs.StopLemmas.{stops-on}
 use Rattle.wb_archive.proofs.fill.fill_binaries.Goals as goal
 
@@ -52,7 +52,7 @@ loop-passed-preserved g c =
             half-step g.R.ReadParagraphs.may_stand_at (binary_row_at c.args.arch.now) (binaries_wanted waited) (λ (row : BinaryRow). row.seq)
                 c.args.list.now c.loop-passed.list c.next_binary.new.list (count c.loop-passed.list) (count c.next_binary.new.list) c.loop-passed.passed half row added
                 (rw c.in-Ok-Some.field-0-is at (c.in-Ok-Some.ensures.value half.count)) (rw c.in-Ok-Some.field-0-is at c.in-Ok-Some.ensures.counts)
-                (binaries-split waited None half.done row ∙ ap (λ (l : Option BinaryRow). binaries_wanted waited half.done ++ binary_kept waited l row) (sym both.1))
+                (sym (behind-none waited (half.done ++ row ∷ [])) ∙ binaries-split waited None half.done row ∙ (λ i. behind-none waited half.done i ++ binary_kept waited (sym both.1 i) row))
                 (kept.value (with_binaries (binaries_wanted waited half.done) at) clean half.holds
                 (binary-after (c.loop-passed.passed + 1) row (binaries_wanted waited half.done) number half.below))
                 (binary-numbered waited (c.loop-passed.passed + 1) c.loop-passed.last row number),

@@ -3,9 +3,9 @@ use Rattle.std.specs.BTreeSet.{contains}
 use Rattle.deb_text.specs.Text.{text_cmp}
 use Rattle.wb_states.specs.declared.scratch.BinaryRow.{BinaryRow}
 use Rattle.wb_merge.specs.Scratch.{binary_row_at}
-use Rattle.wb_archive.specs.Fills.{binaries_wanted, last_behind}
+use Rattle.wb_archive.specs.Fills.{binaries_wanted}
 use Rattle.wb_archive.specs.Tables.{Tables, with_binaries}
-use Rattle.wb_archive.proofs.FillLemmas.{IsHalfFilled}
+use Rattle.wb_archive.proofs.FillLemmas.{IsHalfFilled, last_behind}
 use Rattle.wb_archive.proofs.fill.fill_binaries.Given as goal
 
 abbrev pub invariant-loop-passed : goal.invariant-loop-passed
