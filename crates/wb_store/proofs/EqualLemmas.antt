@@ -16,6 +16,7 @@ use Rattle.sqlite_value.proofs.OrderLemmas.{value_cmp-Int, value_cmp-Text}
 use Rattle.deb_text.specs.Options.{has_value}
 use Rattle.deb_text.specs.Text.{text_cmp}
 use Rattle.deb_text.proofs.KeyLemmas.{text_cmp_total, text_cmp-same, eq_by_cmp-same}
+use Rattle.wb_merge.proofs.NameLemmas.{bytes_eq-turned}
 use Rattle.wb_rows.specs.Cells.{number, text_or_null, number_or_null}
 
 -- SQL finds the two values equal
