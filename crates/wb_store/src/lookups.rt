@@ -138,6 +138,7 @@ impl<S: Alter + Drop> Writing<'_, S> {
         ensures looks_up { LooksUp S.Store ask.Archs (λ machine archs. archs.items ≡ map.entries machine.archs)
             self.old.store.now self.new.store.now result }
         ensures same_reference { self.new.store.ghost_name ≡ self.old.store.ghost_name }
+        ensures same_merge { (self.new.is_saved ≡ self.old.is_saved) × (self.new.last_place ≡ self.old.last_place) }
     {
         self.store.archs()
     }
@@ -147,6 +148,7 @@ impl<S: Alter + Drop> Writing<'_, S> {
         ensures looks_up { LooksUp S.Store (ask.ArchNamed name.now) (λ machine found. found ≡ map.get machine.archs name.now)
             self.old.store.now self.new.store.now result }
         ensures same_reference { self.new.store.ghost_name ≡ self.old.store.ghost_name }
+        ensures same_merge { (self.new.is_saved ≡ self.old.is_saved) × (self.new.last_place ≡ self.old.last_place) }
     {
         self.store.arch(name)
     }
@@ -156,6 +158,7 @@ impl<S: Alter + Drop> Writing<'_, S> {
         ensures looks_up { LooksUp S.Store (ask.Pair (builder.now, arch.now)) (λ machine is_there. is_there ≡ set.contains machine.builders (builder.now, arch.now))
             self.old.store.now self.new.store.now result }
         ensures same_reference { self.new.store.ghost_name ≡ self.old.store.ghost_name }
+        ensures same_merge { (self.new.is_saved ≡ self.old.is_saved) × (self.new.last_place ≡ self.old.last_place) }
     {
         self.store.has_builder(builder, arch)
     }
@@ -166,6 +169,7 @@ impl<S: Alter + Drop> Writing<'_, S> {
         ensures looks_up { LooksUp S.Store (ask.PairsOf builder.now) (λ machine archs. IsConsistent machine → archs.items ≡ archs_of machine builder.now)
             self.old.store.now self.new.store.now result }
         ensures same_reference { self.new.store.ghost_name ≡ self.old.store.ghost_name }
+        ensures same_merge { (self.new.is_saved ≡ self.old.is_saved) × (self.new.last_place ≡ self.old.last_place) }
     {
         self.store.archs_of(builder)
     }
@@ -176,6 +180,7 @@ impl<S: Alter + Drop> Writing<'_, S> {
         ensures looks_up { LooksUp S.Store ask.Office (λ machine counts. (counts.handed ≡ machine.handed) × (counts.accepted ≡ machine.accepted))
             self.old.store.now self.new.store.now result }
         ensures same_reference { self.new.store.ghost_name ≡ self.old.store.ghost_name }
+        ensures same_merge { (self.new.is_saved ≡ self.old.is_saved) × (self.new.last_place ≡ self.old.last_place) }
     {
         self.store.office_row()
     }
@@ -186,6 +191,7 @@ impl<S: Alter + Drop> Writing<'_, S> {
         ensures looks_up { LooksUp S.Store (ask.StatesOf arch.now) (λ machine counts. counts ≡ counts_of machine arch.now)
             self.old.store.now self.new.store.now result }
         ensures same_reference { self.new.store.ghost_name ≡ self.old.store.ghost_name }
+        ensures same_merge { (self.new.is_saved ≡ self.old.is_saved) × (self.new.last_place ≡ self.old.last_place) }
     {
         self.store.counts(arch)
     }
@@ -196,6 +202,7 @@ impl<S: Alter + Drop> Writing<'_, S> {
         ensures looks_up { LooksUp S.Store (ask.RecordAt (arch.now, source.now)) (λ machine found. found ≡ map.get machine.records (arch.now, source.now))
             self.old.store.now self.new.store.now result }
         ensures same_reference { self.new.store.ghost_name ≡ self.old.store.ghost_name }
+        ensures same_merge { (self.new.is_saved ≡ self.old.is_saved) × (self.new.last_place ≡ self.old.last_place) }
     {
         self.store.get(arch, source)
     }
@@ -206,6 +213,7 @@ impl<S: Alter + Drop> Writing<'_, S> {
         ensures looks_up { LooksUp S.Store (ask.TakenAs take_number) (λ machine found. IsConsistent machine → option_map entry_of found ≡ taken_as machine take_number)
             self.old.store.now self.new.store.now result }
         ensures same_reference { self.new.store.ghost_name ≡ self.old.store.ghost_name }
+        ensures same_merge { (self.new.is_saved ≡ self.old.is_saved) × (self.new.last_place ≡ self.old.last_place) }
     {
         self.store.by_take(take_number)
     }
@@ -216,6 +224,7 @@ impl<S: Alter + Drop> Writing<'_, S> {
         ensures looks_up { LooksUp S.Store (ask.RecordsOf arch.now) (λ machine rows. each entry_of rows.items ≡ rows_of machine arch.now)
             self.old.store.now self.new.store.now result }
         ensures same_reference { self.new.store.ghost_name ≡ self.old.store.ghost_name }
+        ensures same_merge { (self.new.is_saved ≡ self.old.is_saved) × (self.new.last_place ≡ self.old.last_place) }
     {
         self.store.all_of(arch)
     }
@@ -226,6 +235,7 @@ impl<S: Alter + Drop> Writing<'_, S> {
         ensures looks_up { LooksUp S.Store (ask.InState arch.now state) (λ machine rows. each entry_of rows.items ≡ rows_in machine arch.now state)
             self.old.store.now self.new.store.now result }
         ensures same_reference { self.new.store.ghost_name ≡ self.old.store.ghost_name }
+        ensures same_merge { (self.new.is_saved ≡ self.old.is_saved) × (self.new.last_place ≡ self.old.last_place) }
     {
         self.store.in_state(arch, state)
     }
@@ -236,6 +246,7 @@ impl<S: Alter + Drop> Writing<'_, S> {
         ensures looks_up { LooksUp S.Store (ask.HeldBy builder.now) (λ machine rows. each entry_of rows.items ≡ held_of machine builder.now)
             self.old.store.now self.new.store.now result }
         ensures same_reference { self.new.store.ghost_name ≡ self.old.store.ghost_name }
+        ensures same_merge { (self.new.is_saved ≡ self.old.is_saved) × (self.new.last_place ≡ self.old.last_place) }
     {
         self.store.held_by(builder)
     }
@@ -246,6 +257,7 @@ impl<S: Alter + Drop> Writing<'_, S> {
         ensures looks_up { LooksUp S.Store (ask.HeadOf arch.now) (λ machine found. IsConsistent machine → option_map entry_of found ≡ head_of machine arch.now)
             self.old.store.now self.new.store.now result }
         ensures same_reference { self.new.store.ghost_name ≡ self.old.store.ghost_name }
+        ensures same_merge { (self.new.is_saved ≡ self.old.is_saved) × (self.new.last_place ≡ self.old.last_place) }
     {
         self.store.head(arch)
     }
@@ -256,6 +268,7 @@ impl<S: Alter + Drop> Writing<'_, S> {
         ensures looks_up { LooksUp S.Store (ask.QueueOf arch.now) (λ machine rows. IsConsistent machine → each entry_of rows.items ≡ queue_of machine arch.now)
             self.old.store.now self.new.store.now result }
         ensures same_reference { self.new.store.ghost_name ≡ self.old.store.ghost_name }
+        ensures same_merge { (self.new.is_saved ≡ self.old.is_saved) × (self.new.last_place ≡ self.old.last_place) }
     {
         self.store.queue_of(arch)
     }

@@ -36,6 +36,7 @@ impl<S: Alter + Drop> Writing<'_, S> {
     pub fn rows(&mut self, alloc: Global) -> Result<Items<TableRow>, StoreFault>
         ensures shows { ShowsAll S.Store self.old.store.now self.new.store.now result }
         ensures same_reference { self.new.store.ghost_name ≡ self.old.store.ghost_name }
+        ensures same_merge { (self.new.is_saved ≡ self.old.is_saved) × (self.new.last_place ≡ self.old.last_place) }
     {
         self.store.rows(alloc)
     }

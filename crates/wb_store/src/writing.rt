@@ -38,6 +38,7 @@ impl<S: Alter + Drop> Writing<'_, S> {
     pub fn set_counts(&mut self, counts: Counts) -> Result<(), StoreFault>
         requires fits { (counts.handed ≤ count_limit) × (counts.accepted ≤ count_limit) }
         ensures same_reference { self.new.store.ghost_name ≡ self.old.store.ghost_name }
+        ensures same_merge { (self.new.is_saved ≡ self.old.is_saved) × (self.new.last_place ≡ self.old.last_place) }
         ensures changes { Changes S.Store (write.SetsCounts counts.handed counts.accepted) (λ _. ⊤)
             (λ machine. record machine { handed = counts.handed; accepted = counts.accepted })
             self.old.store.now self.new.store.now result }
@@ -49,6 +50,7 @@ impl<S: Alter + Drop> Writing<'_, S> {
     /// Adds an architecture, which is not there yet, with its words; all else stays. A name that is there is a fault too.
     pub fn add_arch(&mut self, name: &Text, words: &OsCpu) -> Result<(), StoreFault>
         ensures same_reference { self.new.store.ghost_name ≡ self.old.store.ghost_name }
+        ensures same_merge { (self.new.is_saved ≡ self.old.is_saved) × (self.new.last_place ≡ self.old.last_place) }
         ensures changes { Changes S.Store (write.AddsArch (name.now, words.now)) (λ machine. map.get machine.archs name.now ≡ None)
             (λ machine. record machine { archs = map.insert machine.archs name.now words.now })
             self.old.store.now self.new.store.now result }
@@ -61,6 +63,7 @@ impl<S: Alter + Drop> Writing<'_, S> {
     /// too.
     pub fn add_builder(&mut self, builder: &Text, arch: &Text) -> Result<(), StoreFault>
         ensures same_reference { self.new.store.ghost_name ≡ self.old.store.ghost_name }
+        ensures same_merge { (self.new.is_saved ≡ self.old.is_saved) × (self.new.last_place ≡ self.old.last_place) }
         ensures changes { Changes S.Store (write.AddsBuilder (builder.now, arch.now))
             (λ machine. set.contains machine.builders (builder.now, arch.now) ≡ false)
             (λ machine. record machine { builders = set.insert machine.builders (builder.now, arch.now) })
@@ -73,6 +76,7 @@ impl<S: Alter + Drop> Writing<'_, S> {
     /// Takes out the record of the source package `source` on the architecture `arch`, if there is one; all else stays.
     pub fn remove(&mut self, arch: &Text, source: &Text) -> Result<(), StoreFault>
         ensures same_reference { self.new.store.ghost_name ≡ self.old.store.ghost_name }
+        ensures same_merge { (self.new.is_saved ≡ self.old.is_saved) × (self.new.last_place ≡ self.old.last_place) }
         ensures changes { Changes S.Store (write.RemovesRecord (arch.now, source.now)) (λ _. ⊤)
             (λ machine. record machine { records = map.remove machine.records (arch.now, source.now) })
             self.old.store.now self.new.store.now result }
@@ -87,6 +91,7 @@ impl<S: Alter + Drop> Writing<'_, S> {
     pub fn put(&mut self, arch: &Text, source: &Text, current: &Record) -> Result<(), StoreFault>
         requires given { IfSome current.now.take (λ take_number. take_number ≤ count_limit) }
         ensures same_reference { self.new.store.ghost_name ≡ self.old.store.ghost_name }
+        ensures same_merge { (self.new.is_saved ≡ self.old.is_saved) × (self.new.last_place ≡ self.old.last_place) }
         ensures changes { Changes S.Store (write.PutsRecord ((arch.now, source.now), current.now)) (λ _. ⊤)
             (λ machine. record machine {
               records = map.insert machine.records (arch.now, source.now) current.now;
@@ -108,6 +113,7 @@ impl<S: Alter + Drop> Writing<'_, S> {
     ) -> Result<(), StoreFault>
         requires given { IfSome current.now.take (λ take_number. take_number ≤ count_limit) }
         ensures same_reference { self.new.store.ghost_name ≡ self.old.store.ghost_name }
+        ensures same_merge { (self.new.is_saved ≡ self.old.is_saved) × (self.new.last_place ≡ self.old.last_place) }
         ensures changes { Changes S.Store (write.ReplacesRecord ((arch.now, source.now), current.now))
             (λ machine. IsSome (map.get machine.records (arch.now, source.now)))
             (λ machine. record machine {

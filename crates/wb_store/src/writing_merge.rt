@@ -26,6 +26,7 @@ impl<S: Alter + Drop> Writing<'_, S> {
     /// Makes a savepoint, to which [`back_to`](Writing::back_to) goes back; nothing is written.
     pub fn save(&mut self) -> Result<(), StoreFault>
         ensures same_reference { self.new.store.ghost_name ≡ self.old.store.ghost_name }
+        ensures same_merge { (self.new.is_saved ≡ self.old.is_saved) × (self.new.last_place ≡ self.old.last_place) }
         ensures calls { CallsPart S.Store save_text IsAny Saves self.old.store.now self.new.store.now result }
     {
         let store = &mut *self.store;
@@ -36,6 +37,7 @@ impl<S: Alter + Drop> Writing<'_, S> {
     /// Without a savepoint it is a fault.
     pub fn back_to(&mut self) -> Result<(), StoreFault>
         ensures same_reference { self.new.store.ghost_name ≡ self.old.store.ghost_name }
+        ensures same_merge { (self.new.is_saved ≡ self.old.is_saved) × (self.new.last_place ≡ self.old.last_place) }
         ensures calls { CallsPart S.Store back_text IsAny GoesBack self.old.store.now self.new.store.now result }
     {
         let store = &mut *self.store;
@@ -45,6 +47,7 @@ impl<S: Alter + Drop> Writing<'_, S> {
     /// Drops the newest savepoint, and keeps what was written since. Without a savepoint it is a fault.
     pub fn release(&mut self) -> Result<(), StoreFault>
         ensures same_reference { self.new.store.ghost_name ≡ self.old.store.ghost_name }
+        ensures same_merge { (self.new.is_saved ≡ self.old.is_saved) × (self.new.last_place ≡ self.old.last_place) }
         ensures calls { CallsPart S.Store release_text IsSaved Releases self.old.store.now self.new.store.now result }
     {
         let store = &mut *self.store;
@@ -56,6 +59,7 @@ impl<S: Alter + Drop> Writing<'_, S> {
     pub fn add_source(&mut self, row: &SourceRow) -> Result<(), StoreFault>
         requires fits { row.now.seq < 2 ^ 63 }
         ensures same_reference { self.new.store.ghost_name ≡ self.old.store.ghost_name }
+        ensures same_merge { (self.new.is_saved ≡ self.old.is_saved) × (self.new.last_place ≡ self.old.last_place) }
         ensures changes { ChangesScratch S.Store (scratch.AddsSource row.now) self.old.store.now self.new.store.now result }
     {
         let store = &mut *self.store;
@@ -67,6 +71,7 @@ impl<S: Alter + Drop> Writing<'_, S> {
     pub fn add_binary(&mut self, row: &BinaryRow) -> Result<(), StoreFault>
         requires fits { row.now.seq < 2 ^ 63 }
         ensures same_reference { self.new.store.ghost_name ≡ self.old.store.ghost_name }
+        ensures same_merge { (self.new.is_saved ≡ self.old.is_saved) × (self.new.last_place ≡ self.old.last_place) }
         ensures changes { ChangesScratch S.Store (scratch.AddsBinary row.now) self.old.store.now self.new.store.now result }
     {
         let store = &mut *self.store;
@@ -78,6 +83,7 @@ impl<S: Alter + Drop> Writing<'_, S> {
     pub fn clear_binaries(&mut self, last: u64) -> Result<(), StoreFault>
         requires fits { last < 2 ^ 63 }
         ensures same_reference { self.new.store.ghost_name ≡ self.old.store.ghost_name }
+        ensures same_merge { (self.new.is_saved ≡ self.old.is_saved) × (self.new.last_place ≡ self.old.last_place) }
         ensures clears { ClearsScratch S.Store ScratchBinary without_binaries self.old.store.now self.new.store.now result }
     {
         let store = &mut *self.store;
@@ -89,6 +95,7 @@ impl<S: Alter + Drop> Writing<'_, S> {
     pub fn clear_scratch(&mut self, last: u64) -> Result<(), StoreFault>
         requires fits { last < 2 ^ 63 }
         ensures same_reference { self.new.store.ghost_name ≡ self.old.store.ghost_name }
+        ensures same_merge { (self.new.is_saved ≡ self.old.is_saved) × (self.new.last_place ≡ self.old.last_place) }
         ensures clears { ClearsScratch S.Store ScratchBinary (λ _. no_merge) self.old.store.now self.new.store.now result }
     {
         let store = &mut *self.store;
@@ -99,6 +106,7 @@ impl<S: Alter + Drop> Writing<'_, S> {
     /// [`sources_named`](Writing::sources_named).
     pub fn listed_names(&mut self) -> Result<Vec<Text>, StoreFault>
         ensures same_reference { self.new.store.ghost_name ≡ self.old.store.ghost_name }
+        ensures same_merge { (self.new.is_saved ≡ self.old.is_saved) × (self.new.last_place ≡ self.old.last_place) }
         ensures looks_up { LooksUpScratch S.Store ask.SourceNames (λ kept found. merge.ListsNames kept.sources found.items)
             self.old.store.now self.new.store.now result }
     {
@@ -111,6 +119,7 @@ impl<S: Alter + Drop> Writing<'_, S> {
     /// a failed query may take the transaction back (this project's own).
     pub fn sources_named(&mut self, name: &Text) -> Result<Vec<SourceRow>, StoreFault>
         ensures same_reference { self.new.store.ghost_name ≡ self.old.store.ghost_name }
+        ensures same_merge { (self.new.is_saved ≡ self.old.is_saved) × (self.new.last_place ≡ self.old.last_place) }
         ensures looks_up { LooksUpScratch S.Store (ask.SourcesNamed name.now) (λ kept found.
             found.items ≡ merge.sources_named name.now kept) self.old.store.now self.new.store.now result }
     {
@@ -122,6 +131,7 @@ impl<S: Alter + Drop> Writing<'_, S> {
     /// those of [`sources_named`](Writing::sources_named), on their table.
     pub fn binaries_of(&mut self, source: &Text) -> Result<Vec<BinaryRow>, StoreFault>
         ensures same_reference { self.new.store.ghost_name ≡ self.old.store.ghost_name }
+        ensures same_merge { (self.new.is_saved ≡ self.old.is_saved) × (self.new.last_place ≡ self.old.last_place) }
         ensures looks_up { LooksUpScratch S.Store (ask.BinariesOf source.now) (λ kept found.
             found.items ≡ merge.binaries_of source.now kept) self.old.store.now self.new.store.now result }
     {
@@ -133,6 +143,7 @@ impl<S: Alter + Drop> Writing<'_, S> {
     /// [`sources_named`](Writing::sources_named), on their table.
     pub fn versions_named(&mut self, name: &Text) -> Result<Vec<BinaryRow>, StoreFault>
         ensures same_reference { self.new.store.ghost_name ≡ self.old.store.ghost_name }
+        ensures same_merge { (self.new.is_saved ≡ self.old.is_saved) × (self.new.last_place ≡ self.old.last_place) }
         ensures looks_up { LooksUpScratch S.Store (ask.BinariesNamed name.now) (λ kept found.
             found.items ≡ merge.binaries_named name.now kept) self.old.store.now self.new.store.now result }
     {
