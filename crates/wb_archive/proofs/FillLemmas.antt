@@ -111,16 +111,17 @@ module _ {R X Y : Type 0} (MayStand : R → ReaderState → Type 0) (row_at : �
       (before.0, (before.1.0, subst (λ k. WithRows k (λ rows. Holds (wanted rows))) (sym is) half.holds))
 
   -- a refusal of the paragraphs ahead is one of the list, of which the table has some rows
-  pub half-refused : {Holds : List Y → Type 0} (which : ListKind) (Breaks : R → ControlFault → Type 0) (start list reader : R) (counted passed : ℕ) (bad : BadList)
+  pub half-refused : {Holds : List Y → Type 0} (which : ListKind) (Breaks : R → ControlFault → Type 0) (start list : R) (counted passed : ℕ) (bad : BadList)
+      → ((fault : ControlFault) → Breaks list fault → Breaks start fault)
       → (half : IsHalfFilled MayStand row_at wanted number Holds start list counted passed)
-      → MayStandWhere MayStand list (λ place. IsRefused Breaks reader which row_at place bad)
-      → MayStandWhere MayStand start (λ place. IsRefused Breaks reader which row_at place bad × ((left : List Y) × Holds left))
-  half-refused which Breaks start list reader counted passed bad half refused =
+      → MayStandWhere MayStand list (λ place. IsRefused (Breaks list) which row_at place bad)
+      → MayStandWhere MayStand start (λ place. IsRefused (Breaks start) which row_at place bad × ((left : List Y) × Holds left))
+  half-refused which Breaks start list counted passed bad earlier half refused =
       let before = half.reads refused.0 refused.1.0 in
       (before.0, (before.1.0, (at before.0 before.1.1 refused.1.1, (wanted half.done, half.holds)))) where
-        at : (place : ReaderState) → ReadsTo row_at half.done place refused.0 → IsRefused Breaks reader which row_at refused.0 bad → IsRefused Breaks reader which row_at place bad
+        at : (place : ReaderState) → ReadsTo row_at half.done place refused.0 → IsRefused (Breaks list) which row_at refused.0 bad → IsRefused (Breaks start) which row_at place bad
         at place reads (inl broken) = inl (record {
-          broke = broken.broke;
+          broke = record { broke = broken.broke.broke; breaks = earlier broken.broke.broke broken.broke.breaks; is = broken.broke.is };
           list = broken.list;
           read = record {
             rows = half.done ++ broken.read.rows;

@@ -4,13 +4,15 @@ use Rattle.std.specs.Prelude.{IsOk}
 use Rattle.std.specs.FinMap as finite
 use Rattle.std.specs.List.{AllByRecursion, AllZip}
 use Rattle.deb_control.specs.declared.fault.ControlFault.{ControlFault}
+use Rattle.deb_control.specs.Fields.{FieldText}
 use Rattle.deb_control.specs.Lines.{lines_of, paragraphs_in}
 use Rattle.deb_control.specs.Paragraphs.{ReaderState, begun}
 use Rattle.deb_relations.specs.declared.arch.ArchWords.{ArchWords}
 use Rattle.deb_text.specs.Lists.{IsIn}
 use Rattle.wb_states.specs.declared.arch.OsCpu.{OsCpu}
 use Rattle.wb_states.specs.declared.command.Part.{Part}
-use Rattle.wb_states.specs.declared.refusal.ListKind.TheVariants.{Sources}
+use Rattle.wb_states.specs.declared.refusal.ListKind.{ListKind}
+use Rattle.wb_states.specs.declared.refusal.ListKind.TheVariants.{Packages, Sources}
 use Rattle.wb_states.specs.declared.refusal.Refusal.{Refusal}
 use Rattle.wb_states.specs.declared.refusal.Refusal.TheVariants.{UnknownArch}
 use Rattle.wb_states.specs.declared.reply.PartEnd.{PartEnd}
@@ -20,50 +22,40 @@ use Rattle.wb_states.specs.declared.scratch.SourceRow.{SourceRow}
 use Rattle.wb_states.specs.Machine.{Machine, with_words}
 use Rattle.wb_merge.specs.Listing.{ArchiveListing}
 use Rattle.wb_merge.specs.Merged.{Records}
-use Rattle.wb_merge.specs.Scratch.{kept_binaries, kept_sources, listing_kept, source_row_at}
+use Rattle.wb_merge.specs.Scratch.{binary_row_at, kept_binaries, kept_sources, listing_kept, source_row_at}
 use Rattle.wb_merge.proofs.ScratchLemmas.{listing_of-kept}
 use Rattle.wb_step.specs.Parts.{end_with, listing_for, part_listing, part_replies, records_after, records_with}
 use Rattle.wb_archive.specs.declared.fault.BadList.{BadList}
 use Rattle.wb_archive.specs.declared.merge.PartList.{PartList}
 use Rattle.wb_archive.specs.Faults.{refusal_of}
-use Rattle.wb_archive.specs.Merges.{ArePartsDone, IsCutOff, IsGiven, IsMergeOfParts, IsPartMerged, IsPartOf, IsPartUnread, IsUnread, MayBeginAt, arch_of, archs_of}
+use Rattle.wb_archive.specs.Merges.{ArePartsDone, BreaksFor, IsGiven, IsGivenBy, IsMergeOfParts, IsPartMerged, IsPartOf, IsPartUnread, IsSourcesRead, IsUnread, MayBeginAt, arch_of, archs_of}
 use Rattle.wb_archive.specs.Parts.{IsListing, IsPartDone, binaries_at, listing_from}
 use Rattle.wb_archive.specs.Fills.{IsFilled, WithRows, sources_wanted}
-use Rattle.wb_archive.specs.Reads.{IsRefused, sources_at}
+use Rattle.wb_archive.specs.Reads.{IsBrokenOff, IsRefused, sources_at}
 use Rattle.wb_archive.specs.Sources.{AreAllKnown, AreKnown, HasSources}
 
 -- a part of an architecture that was never added
-pub part-unknown : {R : Type 0} (Breaks : R → ControlFault → Type 0) (Holds : Records → Type 0) (machine : Machine) (text : List ℕ) (of : Part) (records : Records)
+pub part-unknown : (Breaks : Part → ControlFault → Type 0) (Holds : Records → Type 0) (machine : Machine) (text : List ℕ) (bad : Option BadList) (of : Part) (records : Records)
     → finite.get machine.archs of.arch ≡ None → Holds records
-    → IsPartDone (IsGiven Breaks machine text of) Holds records of.arch (Refused UnknownArch)
-unfolding part_listing
-part-unknown Breaks Holds machine text of records none holds = record {
+    → IsPartDone (IsGiven Breaks machine text bad of) Holds records of.arch (Refused UnknownArch)
+part-unknown Breaks Holds machine text bad of records none holds = record {
   listing = Err UnknownArch;
-  gives = inl (sym (ap (listing_for text of) none));
+  gives = subst (λ words. IsGivenBy (Breaks of) text of words bad (Err UnknownArch)) (sym none) refl;
   is = refl;
   holds = holds;
 }
 
-listing-known : (machine : Machine) (text : List ℕ) (of : Part) (words : OsCpu) → finite.get machine.archs of.arch ≡ Some words
-    → part_listing machine text of ≡ listing_kept (with_words of.arch words) (kept_sources text) (kept_binaries (with_words of.arch words) of.packages)
-unfolding part_listing
-listing-known machine text of words some = ap (listing_for text of) some ∙ listing_of-kept text of.packages (with_words of.arch words)
-
 -- a part of a merge whose Sources list is refused
-pub part-without-sources : {R : Type 0} (Breaks : R → ControlFault → Type 0) (Holds : Records → Type 0) (machine : Machine) (text : List ℕ) (archs : List ArchWords)
-    (table : List SourceRow) (of : Part) (words : OsCpu) (records : Records) (bad : BadList) (end : PartEnd)
-    → finite.get machine.archs of.arch ≡ Some words → HasSources Breaks text archs table (Some bad) → end ≡ Refused (refusal_of bad) → Holds records
-    → IsPartDone (IsGiven Breaks machine text of) Holds records of.arch end
-part-without-sources Breaks Holds machine text archs table of words records bad end some has is holds = record {
+pub part-without-sources : (Breaks : Part → ControlFault → Type 0) (Holds : Records → Type 0) (machine : Machine) (text : List ℕ) (of : Part) (words : OsCpu) (records : Records)
+    (why : Option BadList) (bad : BadList) (end : PartEnd) → why ≡ Some bad → finite.get machine.archs of.arch ≡ Some words → end ≡ Refused (refusal_of bad) → Holds records
+    → IsPartDone (IsGiven Breaks machine text why of) Holds records of.arch end
+part-without-sources Breaks Holds machine text of words records why bad end refused some is holds = record {
   listing = Err (refusal_of bad);
-  gives = at has;
+  gives = subst (λ (w : Option BadList). IsGivenBy (Breaks of) text of (finite.get machine.archs of.arch) w (Err (refusal_of bad))) (sym refused)
+      (subst (λ words. IsGivenBy (Breaks of) text of words (Some bad) (Err (refusal_of bad))) (sym some) refl);
   is = is;
   holds = holds;
-} where
-  at : HasSources Breaks text archs table (Some bad) → IsGiven Breaks machine text of (Err (refusal_of bad))
-  at (inl broke) = inr (bad, (record { words = words; known = some; reader = broke.0; cut = inl broke.1 }, refl))
-  at (inr e) = inl (sym (listing-known machine text of words some
-      ∙ ap (λ sources. listing_kept (with_words of.arch words) sources (kept_binaries (with_words of.arch words) of.packages)) e))
+}
 
 pub sources-begun : (text : List ℕ) → sources_at (begun (paragraphs_in (lines_of text))) ≡ kept_sources text
 unfolding kept_sources
@@ -74,27 +66,60 @@ unfolding kept_binaries
 binaries-begun arch packages = refl
 
 -- a part of a merge whose lists were read
-pub part-with-sources : {R : Type 0} (Breaks : R → ControlFault → Type 0) (reader : R) (Holds : Records → Type 0) (machine : Machine) (text : List ℕ)
-    (of : Part) (words : OsCpu) (records : Records) (rows : List SourceRow) (end : PartEnd)
-    → finite.get machine.archs of.arch ≡ Some words → kept_sources text ≡ Ok rows
-    → IsPartDone (IsListing Breaks reader (with_words of.arch words) rows (begun (paragraphs_in (lines_of of.packages)))) Holds records of.arch end
-    → IsPartDone (IsGiven Breaks machine text of) Holds records of.arch end
-part-with-sources Breaks reader Holds machine text of words records rows end some kept done = record {
+pub part-with-sources : (Breaks : Part → ControlFault → Type 0) (Holds : Records → Type 0) (machine : Machine) (text : List ℕ)
+    (of : Part) (words : OsCpu) (records : Records) (why : Option BadList) (rows : List SourceRow) (end : PartEnd)
+    → why ≡ None → finite.get machine.archs of.arch ≡ Some words → kept_sources text ≡ Ok rows
+    → IsPartDone (IsListing (Breaks of) (with_words of.arch words) rows (begun (paragraphs_in (lines_of of.packages)))) Holds records of.arch end
+    → IsPartDone (IsGiven Breaks machine text why of) Holds records of.arch end
+part-with-sources Breaks Holds machine text of words records why rows end read some kept done = record {
   listing = done.listing;
-  gives = at done.gives;
+  gives = subst (λ (w : Option BadList). IsGivenBy (Breaks of) text of (finite.get machine.archs of.arch) w done.listing) (sym read)
+      (subst (λ words. IsGivenBy (Breaks of) text of words None done.listing) (sym some) (at done.gives));
   is = done.is;
   holds = done.holds;
 } where
-  same : listing_from (with_words of.arch words) rows (begun (paragraphs_in (lines_of of.packages))) ≡ part_listing machine text of
+  same : listing_from (with_words of.arch words) rows (begun (paragraphs_in (lines_of of.packages))) ≡ listing_for text of (Some words)
   same = ap₂ (listing_kept (with_words of.arch words)) (sym kept) (binaries-begun (with_words of.arch words) of.packages)
-      ∙ sym (listing-known machine text of words some)
+      ∙ sym (listing_of-kept text of.packages (with_words of.arch words))
 
-  whole : IsOk (sources_at (begun (paragraphs_in (lines_of text))))
-  whole = subst IsOk (sym (sources-begun text ∙ kept)) refl
-
-  at : IsListing Breaks reader (with_words of.arch words) rows (begun (paragraphs_in (lines_of of.packages))) done.listing → IsGiven Breaks machine text of done.listing
+  at : IsListing (Breaks of) (with_words of.arch words) rows (begun (paragraphs_in (lines_of of.packages))) done.listing
+      → IsGivenBy (Breaks of) text of (Some words) None done.listing
   at (inl e) = inl (e ∙ same)
-  at (inr broke) = inr (broke.0, (record { words = words; known = some; reader = reader; cut = inr (whole, broke.1.0) }, broke.1.1))
+  at (inr broke) = inr broke
+
+-- a list that could not be read on, by more faults with which its reader may have broken
+pub broken-more : {X : Type 0} (One Other : ControlFault → Type 0) (which : ListKind) (row_at : ℕ → List FieldText → Result X Refusal) (place : ReaderState) (bad : BadList)
+    → ((fault : ControlFault) → One fault → Other fault) → IsBrokenOff One which row_at place bad → IsBrokenOff Other which row_at place bad
+broken-more One Other which row_at place bad more broken = record {
+  broke = record { broke = broken.broke.broke; breaks = more broken.broke.broke broken.broke.breaks; is = broken.broke.is };
+  list = broken.list;
+  read = broken.read;
+}
+
+-- what a part was given, by more faults with which its reader may have broken
+pub given-more : (One Other : ControlFault → Type 0) (text : List ℕ) (of : Part) (words : Option OsCpu) (bad : Option BadList) (listing : Result ArchiveListing Refusal)
+    → ((fault : ControlFault) → One fault → Other fault) → IsGivenBy One text of words bad listing → IsGivenBy Other text of words bad listing
+given-more One Other text of None bad listing more e = e
+given-more One Other text of (Some words) (Some fault) listing more e = e
+given-more One Other text of (Some words) None listing more (inl e) = inl e
+given-more One Other text of (Some words) None listing more (inr broke) = inr (broke.0, (broken-more One Other Packages (binary_row_at (with_words of.arch words)) _ broke.0 more broke.1.0, broke.1.1))
+
+-- a part was merged or refused by its own list, which is among these
+pub part-among : {R : Type 0} (MayStand : R → ReaderState → Type 0) (Breaks : R → ControlFault → Type 0) (machine : Machine) (text : List ℕ) (bad : Option BadList)
+    (Holds : Records → Type 0) (all : List (PartList R)) (part : PartList R) (records : Records) (end : PartEnd) → IsIn part all
+    → IsPartMerged MayStand machine (IsGiven (λ _. Breaks part.packages) machine text bad) Holds part records end
+    → IsPartMerged MayStand machine (IsGiven (BreaksFor Breaks all) machine text bad) Holds part records end
+part-among MayStand Breaks machine text bad Holds all part records end there merged = record {
+  of = merged.of;
+  is = merged.is;
+  done = record {
+    listing = merged.done.listing;
+    gives = given-more (Breaks part.packages) (BreaksFor Breaks all merged.of) text merged.of (finite.get machine.archs merged.of.arch) bad merged.done.listing
+        (λ fault broke. (part, there, merged.is.arch, broke)) merged.done.gives;
+    is = merged.done.is;
+    holds = merged.done.holds;
+  };
+}
 
 -- ---- the list of a part
 
@@ -127,6 +152,7 @@ pub record IsHalfMerged {R : Type 0} (MayStand : R → ReaderState → Type 0) (
   pub holds : Holds records
   pub unread : AllByRecursion (IsPartUnread MayStand machine) parts
   pub known : AreAllKnown archs parts
+  pub among : (part : PartList R) → IsIn part parts → IsIn part all
   pub goes : (more : List PartReply) (last : Records) → AreMerged MayStand machine Gives parts records more last → AreMerged MayStand machine Gives all start (replies ++ more) last
 
 module _ {R : Type 0} (MayStand : R → ReaderState → Type 0) (machine : Machine) (archs : List ArchWords) (Gives : Part → Result ArchiveListing Refusal → Type 0) where
@@ -138,6 +164,7 @@ module _ {R : Type 0} (MayStand : R → ReaderState → Type 0) (machine : Machi
     holds = holds;
     unread = subst (λ (l : List (PartList R)). AllByRecursion (IsPartUnread MayStand machine) l) (sym same) unread;
     known = subst (λ (l : List (PartList R)). AreAllKnown archs l) (sym same) known;
+    among = λ part there. subst (λ (l : List (PartList R)). IsIn part l) same there;
     goes = λ more last done.
         subst (λ (r : List PartReply). AreMerged MayStand machine Gives all start (r ++ more) last) (sym none)
         (subst (λ (l : List (PartList R)). AreMerged MayStand machine Gives l start more last) same done);
@@ -145,13 +172,14 @@ module _ {R : Type 0} (MayStand : R → ReaderState → Type 0) (machine : Machi
 
   pub merged-step : {Holds More : Records → Type 0} (all : List (PartList R)) (start : Records) (replies made : List PartReply) (parts later : List (PartList R)) (part : PartList R) (reply : PartReply)
       → parts ≡ part ∷ later → made ≡ replies ++ reply ∷ [] → IsHalfMerged MayStand machine archs Gives Holds all start replies parts
-      → ((records : Records) → Holds records → IsPartUnread MayStand machine part → AreKnown archs part.arch part.words
+      → ((records : Records) → Holds records → IsIn part all → IsPartUnread MayStand machine part → AreKnown archs part.arch part.words
       → (reply.arch ≡ part.arch) × IsPartMerged MayStand machine Gives More part records reply.end)
       → IsHalfMerged MayStand machine archs Gives More all start made later
   merged-step {More = More} all start replies made parts later part reply split is half answer =
       let known = subst (λ (l : List (PartList R)). AreAllKnown archs l) split half.known in
       let unread = subst (λ (l : List (PartList R)). AllByRecursion (IsPartUnread MayStand machine) l) split half.unread in
-      let told = answer half.records half.holds unread.0 known.0 in
+      let among = subst (λ (l : List (PartList R)). (part : PartList R) → IsIn part l → IsIn part all) split half.among in
+      let told = answer half.records half.holds (among part (inl refl)) unread.0 known.0 in
       let of = told.1.of in
       let end = told.1.done in
       let arch_is : reply.arch ≡ of.arch = told.0 ∙ told.1.is.arch in
@@ -161,6 +189,7 @@ module _ {R : Type 0} (MayStand : R → ReaderState → Type 0) (machine : Machi
         holds = end.holds;
         unread = unread.1;
         known = known.1;
+        among = λ part there. among part (inr there);
         goes = λ more last done.
             subst (λ (r : List PartReply). AreMerged MayStand machine Gives all start (r ++ more) last) (sym is)
             (subst (λ (r : List PartReply). AreMerged MayStand machine Gives all start r last) (sym (append_assoc replies (reply ∷ []) more))
@@ -210,18 +239,18 @@ known-all (part ∷ parts) = (
 -- ---- Sources
 
 -- what a Sources list left in the tables
-pub sources-read : {R : Type 0} (Breaks : R → ControlFault → Type 0) (reader : R) (Holds : List SourceRow → Type 0) (text : List ℕ) (archs : List ArchWords) (bad : Option BadList)
-    → IsFilled (sources_at (begun (paragraphs_in (lines_of text)))) (sources_wanted archs) Holds (IsRefused Breaks reader Sources source_row_at (begun (paragraphs_in (lines_of text)))) bad
-    → (table : List SourceRow) × (Holds table × HasSources Breaks text archs table bad)
-sources-read Breaks reader Holds text archs None filled = at (kept_sources text) refl (subst (λ kept. WithRows kept (λ rows. Holds (sources_wanted archs rows))) (sources-begun text) filled) where
+pub sources-read : (Breaks : ControlFault → Type 0) (Holds : List SourceRow → Type 0) (text : List ℕ) (archs : List ArchWords) (bad : Option BadList)
+    → IsFilled (sources_at (begun (paragraphs_in (lines_of text)))) (sources_wanted archs) Holds (IsRefused Breaks Sources source_row_at (begun (paragraphs_in (lines_of text)))) bad
+    → (table : List SourceRow) × (Holds table × (HasSources text archs table bad × IsSourcesRead Breaks text bad))
+sources-read Breaks Holds text archs None filled = at (kept_sources text) refl (subst (λ kept. WithRows kept (λ rows. Holds (sources_wanted archs rows))) (sources-begun text) filled) where
   at : (kept : Result (List SourceRow) Refusal) → kept_sources text ≡ kept → WithRows kept (λ rows. Holds (sources_wanted archs rows))
-      → (table : List SourceRow) × (Holds table × WithRows (kept_sources text) (λ rows. table ≡ sources_wanted archs rows))
-  at (Ok rows) e holds = (sources_wanted archs rows, (holds, subst (λ k. WithRows k (λ r. sources_wanted archs rows ≡ sources_wanted archs r)) (sym e) refl))
+      → (table : List SourceRow) × (Holds table × (WithRows (kept_sources text) (λ rows. table ≡ sources_wanted archs rows) × IsOk (kept_sources text)))
+  at (Ok rows) e holds = (
+    sources_wanted archs rows,
+    (holds, (subst (λ k. WithRows k (λ r. sources_wanted archs rows ≡ sources_wanted archs r)) (sym e) refl, subst IsOk (sym e) refl)),
+  )
   at (Err refusal) e holds = absurd holds
-sources-read Breaks reader Holds text archs (Some bad) filled = (filled.1.0, (filled.1.1, at filled.0)) where
-  at : IsRefused Breaks reader Sources source_row_at (begun (paragraphs_in (lines_of text))) bad → HasSources Breaks text archs filled.1.0 (Some bad)
-  at (inl broken) = inl (reader, broken)
-  at (inr e) = inr (sym (sources-begun text) ∙ e)
+sources-read Breaks Holds text archs (Some bad) filled = (filled.1.0, (filled.1.1, (tt, filled.0)))
 
 -- rows of Sources that were read, with the rows that they have
 pub has-rows : (text : List ℕ) (P : List SourceRow → Type 0) → WithRows (kept_sources text) P → (rows : List SourceRow) × ((kept_sources text ≡ Ok rows) × P rows)
@@ -232,26 +261,36 @@ has-rows text P = at (kept_sources text) where
 
 -- ---- merges of readers that do not break
 
-given-is : {R : Type 0} (Breaks : R → ControlFault → Type 0) → ((reader : R) (fault : ControlFault) → Breaks reader fault → ⊥)
-    → (machine : Machine) (text : List ℕ) (of : Part) (given : Result ArchiveListing Refusal) → IsGiven Breaks machine text of given → given ≡ part_listing machine text of
-given-is Breaks never machine text of given (inl e) = e
-given-is Breaks never machine text of given (inr (bad, (off, is))) = absurd (by off.cut) where
-  by : IsCutOff Breaks off.reader (with_words of.arch off.words) (begun (paragraphs_in (lines_of text))) (begun (paragraphs_in (lines_of of.packages))) bad → ⊥
-  by (inl broken) = never off.reader broken.broke.broke broken.broke.breaks
-  by (inr (whole, broken)) = never off.reader broken.broke.broke broken.broke.breaks
+-- what is kept of a Sources list that is refused is the refusal of each part
+pub sources-refused : (text : List ℕ) (of : Part) (words : OsCpu) (refusal : Refusal) → sources_at (begun (paragraphs_in (lines_of text))) ≡ Err refusal
+    → Err refusal ≡ listing_for text of (Some words)
+sources-refused text of words refusal is =
+    sym (listing_of-kept text of.packages (with_words of.arch words)
+    ∙ ap (λ sources. listing_kept (with_words of.arch words) sources (kept_binaries (with_words of.arch words) of.packages)) (sym (sources-begun text) ∙ is))
+
+given-is : (SourcesBreak PartBreaks : ControlFault → Type 0) → ((fault : ControlFault) → SourcesBreak fault → ⊥) → ((fault : ControlFault) → PartBreaks fault → ⊥)
+    → (text : List ℕ) (of : Part) (words : Option OsCpu) (bad : Option BadList) (given : Result ArchiveListing Refusal)
+    → IsSourcesRead SourcesBreak text bad → IsGivenBy PartBreaks text of words bad given → given ≡ listing_for text of words
+given-is SourcesBreak PartBreaks none never text of None bad given read e = e
+given-is SourcesBreak PartBreaks none never text of (Some words) (Some bad) given (inl broken) e = absurd (none broken.broke.broke broken.broke.breaks)
+given-is SourcesBreak PartBreaks none never text of (Some words) (Some bad) given (inr is) e = e ∙ sources-refused text of words (refusal_of bad) is
+given-is SourcesBreak PartBreaks none never text of (Some words) None given read (inl e) = e
+given-is SourcesBreak PartBreaks none never text of (Some words) None given read (inr broke) = absurd (never broke.1.0.broke.broke broke.1.0.broke.breaks)
 
 -- if no reader breaks, the replies and the records are those of the lists
-pub parts-are : {R : Type 0} (Breaks : R → ControlFault → Type 0) → ((reader : R) (fault : ControlFault) → Breaks reader fault → ⊥)
-    → (machine : Machine) (text : List ℕ) (given : List Part) (records last : Records) (replies : List PartReply)
-    → ArePartsDone (IsGiven Breaks machine text) given records replies last
+pub parts-are : (SourcesBreak : ControlFault → Type 0) (PartBreaks : Part → ControlFault → Type 0) → ((fault : ControlFault) → SourcesBreak fault → ⊥)
+    → ((of : Part) (fault : ControlFault) → PartBreaks of fault → ⊥)
+    → (machine : Machine) (text : List ℕ) (bad : Option BadList) (given : List Part) (records last : Records) (replies : List PartReply) → IsSourcesRead SourcesBreak text bad
+    → ArePartsDone (IsGiven PartBreaks machine text bad) given records replies last
     → (replies ≡ part_replies machine text given records) × (last ≡ records_after machine text given records)
-parts-are Breaks never machine text [] records last [] done = (refl, done)
-parts-are Breaks never machine text [] records last (reply ∷ replies) done = absurd done
-parts-are Breaks never machine text (of ∷ ofs) records last [] done = absurd done
-parts-are Breaks never machine text (of ∷ ofs) records last (reply ∷ replies) done =
+unfolding part_listing
+parts-are SourcesBreak PartBreaks none never machine text bad [] records last [] read done = (refl, done)
+parts-are SourcesBreak PartBreaks none never machine text bad [] records last (reply ∷ replies) read done = absurd done
+parts-are SourcesBreak PartBreaks none never machine text bad (of ∷ ofs) records last [] read done = absurd done
+parts-are SourcesBreak PartBreaks none never machine text bad (of ∷ ofs) records last (reply ∷ replies) read done =
     let listing = done.0 in
-    let e = given-is Breaks never machine text of listing done.1.0 in
-    let rest = parts-are Breaks never machine text ofs (records_with records of.arch listing) last replies done.1.1.1 in (
+    let e : listing ≡ part_listing machine text of = given-is SourcesBreak (PartBreaks of) none (never of) text of (finite.get machine.archs of.arch) bad listing read done.1.0 in
+    let rest = parts-are SourcesBreak PartBreaks none never machine text bad ofs (records_with records of.arch listing) last replies read done.1.1.1 in (
       (λ i. done.1.1.0 i ∷ rest.0 i)
           ∙ (λ i. record { arch = of.arch; end = end_with records of.arch (e i) } ∷ part_replies machine text ofs (records_with records of.arch (e i))),
       rest.1 ∙ (λ i. records_after machine text ofs (records_with records of.arch (e i))),

@@ -22,16 +22,16 @@ use Rattle.wb_archive.specs.Waited.{AreAllWaitedFor}
 use Rattle.wb_archive.proofs.FilterLemmas.{counts-same, cut-alike, merged-same}
 
 -- a part whose list is refused
-pub part-refused : {R : Type 0} (Breaks : R → ControlFault → Type 0) (reader : R) (Holds : Records → Type 0) (arch : ArchWords) (records : Records) (rows : List SourceRow)
-    (place : ReaderState) (bad : BadList) (end : PartEnd) → IsRefused Breaks reader Packages (binary_row_at arch) place bad → end ≡ Refused (refusal_of bad) → Holds records
-    → IsPartDone (IsListing Breaks reader arch rows place) Holds records arch.name end
-part-refused Breaks reader Holds arch records rows place bad end refused is holds = record {
+pub part-refused : (Breaks : ControlFault → Type 0) (Holds : Records → Type 0) (arch : ArchWords) (records : Records) (rows : List SourceRow)
+    (place : ReaderState) (bad : BadList) (end : PartEnd) → IsRefused Breaks Packages (binary_row_at arch) place bad → end ≡ Refused (refusal_of bad) → Holds records
+    → IsPartDone (IsListing Breaks arch rows place) Holds records arch.name end
+part-refused Breaks Holds arch records rows place bad end refused is holds = record {
   listing = Err (refusal_of bad);
   gives = at refused;
   is = is;
   holds = holds;
 } where
-  at : IsRefused Breaks reader Packages (binary_row_at arch) place bad → IsListing Breaks reader arch rows place (Err (refusal_of bad))
+  at : IsRefused Breaks Packages (binary_row_at arch) place bad → IsListing Breaks arch rows place (Err (refusal_of bad))
   at (inl broken) = inr (bad, (broken, refl))
   at (inr e) = inl (sym (ap (λ (read : Result (List (Option BinaryRow)) Refusal). listing_kept arch (Ok rows) (result_map_both present (λ refusal. refusal) read)) e))
 
@@ -41,14 +41,14 @@ with-read (Ok rows) P h = (rows, (refl, h))
 with-read (Err refusal) P h = absurd h
 
 -- a part whose list was read into its table
-pub part-kept : {R : Type 0} (Breaks : R → ControlFault → Type 0) (reader : R) (Holds : Records → Type 0) (Stood : List BinaryRow → Type 0) (arch : ArchWords) (archs : List ArchWords)
+pub part-kept : (Breaks : ControlFault → Type 0) (Holds : Records → Type 0) (Stood : List BinaryRow → Type 0) (arch : ArchWords) (archs : List ArchWords)
     (waited : List ℕ → Bool) (records : Records) (rows : List SourceRow) (place : ReaderState) (end : PartEnd)
     → IsIn arch archs → AreAllWaitedFor records arch.name waited
     → WithRows (packages_at arch place) (λ read. Stood (binaries_wanted waited read))
     → ((binaries : List BinaryRow) → Stood binaries → (end ≡ Merged (merge_counts records arch.name (listing_of_kept arch (sources_wanted archs rows) binaries)))
     × Holds (merged records arch.name (listing_of_kept arch (sources_wanted archs rows) binaries)))
-    → IsPartDone (IsListing Breaks reader arch rows place) Holds records arch.name end
-part-kept Breaks reader Holds Stood arch archs waited records rows place end there all stood step =
+    → IsPartDone (IsListing Breaks arch rows place) Holds records arch.name end
+part-kept Breaks Holds Stood arch archs waited records rows place end there all stood step =
     let read = with-read (packages_at arch place) (λ read. Stood (binaries_wanted waited read)) stood in
     let done = step (binaries_wanted waited read.0) read.1.1 in
     let alike = cut-alike arch archs there waited rows read.0 records all in

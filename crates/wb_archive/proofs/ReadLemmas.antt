@@ -192,18 +192,18 @@ module _ {R : Type 0} (MayStand : R → ReaderState → Type 0) (passed_by : R �
 
     module _ (Breaks : R → ControlFault → Type 0) where
       -- what a list that is refused says of its reader
-      abbrev MayRefuse : R → R → BadList → Type 0
-      MayRefuse old new bad = MayStandWhere MayStand old (λ place. IsRefused Breaks new which row_at place bad)
+      abbrev MayRefuse : R → BadList → Type 0
+      MayRefuse old bad = MayStandWhere MayStand old (λ place. IsRefused (Breaks old) which row_at place bad)
 
       -- the fields of the next paragraph are refused
       pub refuses-fields : (old new : R) (passed : ℕ) (fields : List FieldText) (refusal : Refusal) (fault : ReadFault) → AnswersFrom MayStand old new (Ok (Some fields))
           → passed ≡ passed_by old → (refusal ≢ Memory → row_at (passed + 1) fields ≡ Err refusal) → IfBad fault (λ bad. refusal ≡ refusal_of bad)
-          → IfBad fault (MayRefuse old new)
+          → IfBad fault (MayRefuse old)
       refuses-fields old new passed fields refusal fault answers count is of = bad-map fault each of where
         other : (bad : BadList) → refusal_of bad ≡ Memory → ⊥
         other bad e = cc
 
-        each : (bad : BadList) → refusal ≡ refusal_of bad → MayRefuse old new bad
+        each : (bad : BadList) → refusal ≡ refusal_of bad → MayRefuse old bad
         each bad e =
             let after = stands new in
             let before = answers after.0 after.1 in (
@@ -216,13 +216,13 @@ module _ {R : Type 0} (MayStand : R → ReaderState → Type 0) (passed_by : R �
             )
 
       -- the reader refuses the next paragraph, or breaks
-      pub refuses-control : (old new : R) (broke : ControlFault) (fault : ReadFault)
+      pub refuses-control : (old : R) (broke : ControlFault) (fault : ReadFault)
           → (broke.kind ≢ OutOfMemory
-          → (Breaks new broke × (broke.paragraph ≡ passed_by old + 1)) ⊎ MayStandWhere MayStand old (λ place. (step place).0 ≡ Err broke))
+          → (Breaks old broke × (broke.paragraph ≡ passed_by old + 1)) ⊎ MayStandWhere MayStand old (λ place. (step place).0 ≡ Err broke))
           → IfBad fault (λ bad. (broke.kind ≢ OutOfMemory) × (bad ≡ control_bad which broke))
-          → IfBad fault (MayRefuse old new)
-      refuses-control old new broke fault is of = bad-map fault each of where
-        each : (bad : BadList) → (broke.kind ≢ OutOfMemory) × (bad ≡ control_bad which broke) → MayRefuse old new bad
+          → IfBad fault (MayRefuse old)
+      refuses-control old broke fault is of = bad-map fault each of where
+        each : (bad : BadList) → (broke.kind ≢ OutOfMemory) × (bad ≡ control_bad which broke) → MayRefuse old bad
         each bad e = (elim (is e.0) [
           | inl breaks ↦ (
             (stands old).0,

@@ -1,24 +1,25 @@
 -- Merges of lists that readers give: what they come to, by the bytes that the readers have; and that they leave the office as the step of a command does.
-use Rattle.std.proofs.Common.{◌≡◌, inl, inr, ℕ, ◌+◌, Bool, true, false, not, ◌||◌, cond, List, [], ◌∷◌, Option, None, Some, Result, Ok, Err, refl, sym, ap, subst, ◌∙◌}
+use Rattle.std.proofs.Common.{◌≡◌, ◌⊎◌, inl, inr, ℕ, ◌+◌, Bool, true, false, not, ◌||◌, cond, List, [], ◌∷◌, Option, None, Some, Result, Ok, Err, refl, sym, ap, subst, ◌∙◌}
 use Rattle.std.proofs.lemmas.Bool.{false≢true}
 use Rattle.std.specs.Prelude.{bytes_eq, nat_le, is_ok, is_none, IsOk}
 use Rattle.std.specs.FinMap as finite
 use Rattle.std.specs.List.{AllByRecursion, AllZip, list_any}
 use Rattle.std.specs.Result.{result_err}
 use Rattle.std.specs.Str.{chars, is_utf8}
+use Rattle.deb_control.specs.declared.fault.ControlFault.{ControlFault}
 use Rattle.deb_control.specs.declared.fault.ControlFaultKind.TheVariants.{NoColon, Read}
 use Rattle.deb_control.specs.Feed.{MayStandAt}
 use Rattle.deb_control.specs.FeedState.{FeedState, fresh}
 use Rattle.deb_control.specs.Source.{MayBeLeft}
-use Rattle.deb_control.specs.Fields.{FieldText, fault_of, form_fault, has_colon, line_fault, reading_of}
+use Rattle.deb_control.specs.Fields.{fault_of, form_fault, has_colon, line_fault, reading_of}
 use Rattle.deb_control.specs.Lines.{body_of, is_separator, lines_of, paragraphs_in}
-use Rattle.deb_control.specs.Paragraphs.{ReaderState, begun}
+use Rattle.deb_control.specs.Paragraphs.{begun}
 use Rattle.deb_relations.specs.declared.arch.ArchWords.{ArchWords}
+use Rattle.deb_text.specs.Lists.{IsIn}
 use Rattle.deb_text.specs.Options.{first_some}
 use Rattle.deb_text.proofs.OptionLemmas.{first_some-None}
 use Rattle.wb_states.specs.declared.arch.OsCpu.{OsCpu}
 use Rattle.wb_states.specs.declared.command.Part.{Part}
-use Rattle.wb_states.specs.declared.refusal.ListKind.{ListKind}
 use Rattle.wb_states.specs.declared.refusal.ListKind.TheVariants.{Packages, Sources}
 use Rattle.wb_states.specs.declared.refusal.ListingFault.TheVariants.{Control}
 use Rattle.wb_states.specs.declared.refusal.Refusal.{Refusal}
@@ -35,7 +36,7 @@ use Rattle.wb_states.specs.Machine.{Machine, with_words}
 use Rattle.wb_states.specs.Names.{is_arch_name}
 use Rattle.wb_merge.specs.Listing.{ArchiveListing}
 use Rattle.wb_merge.specs.Merged.{Records}
-use Rattle.wb_merge.specs.Scratch.{binary_row_at, kept_binaries, kept_sources, listing_kept, source_row_at}
+use Rattle.wb_merge.specs.Scratch.{kept_binaries, kept_sources, listing_kept, source_row_at}
 use Rattle.wb_merge.proofs.ScratchLemmas.{listing_of-kept}
 use Rattle.wb_step.specs.Checks.{first_refusal, has_repeated_arch as repeats_part, text_checks, text_refusal, when}
 use Rattle.wb_step.specs.Parts.{end_with, is_good, is_merged, listing_for, part_listing, part_replies, parts_refusal, records_after, records_with}
@@ -46,11 +47,12 @@ use Rattle.wb_step.proofs.StepLemmas.{step-refused, step-text}
 use Rattle.wb_archive.specs.declared.merge.PartList.{PartList}
 use Rattle.wb_archive.specs.declared.merge_from.ArchList.{ArchList}
 use Rattle.wb_archive.specs.declared.fault.BadList.{BadList}
+use Rattle.wb_archive.specs.Faults.{refusal_of}
 use Rattle.wb_archive.specs.Feeds.{IsFeedBreak}
-use Rattle.wb_archive.specs.Merges.{ArePartsDone, IsCutOff, IsGiven, IsMergeOfLists, IsPartOf, IsPartUnread, IsUnread, MayBeginAt}
-use Rattle.wb_archive.specs.Reads.{IsBrokenOff}
-use Rattle.wb_archive.specs.Readers.{IsAsStep, IsFeedOf, IsListOf, IsMergeOf, IsMergeOfTexts, IsReadAs, IsReadFault, StandsForPart, archs_refusal, has_repeated_arch, merge_outcome, merged_office, outcome_by, refusal_by, refusal_in, unread_list}
-use Rattle.wb_archive.proofs.KnownListLemmas.{given-alike}
+use Rattle.wb_archive.specs.Merges.{ArePartsDone, BreaksFor, IsGiven, IsGivenBy, IsMergeOfLists, IsPartOf, IsPartUnread, IsSourcesRead, IsUnread, MayBeginAt}
+use Rattle.wb_archive.specs.Readers.{IsAsStep, IsFeedOf, IsListOf, IsMergeOf, IsMergeOfTexts, IsOfRead, IsPartReadFault, IsReadFault, StandsForPart, archs_refusal, has_repeated_arch, merge_outcome, merged_office, outcome_by, refusal_by, refusal_in, unread_list}
+use Rattle.wb_archive.proofs.KnownListLemmas.{given-alike, read-alike}
+use Rattle.wb_archive.proofs.MergeLemmas.{broken-more, given-more, sources-refused}
 
 -- ---- the refusal of a merge by its replies
 
@@ -172,31 +174,36 @@ feed-bytes : (known : Option (List ℕ)) (feed : FeedState) (text : List ℕ) �
     → (bytes : List ℕ) × MayBeLeft known bytes × (begun (paragraphs_in (lines_of text)) ≡ begun (paragraphs_in (lines_of bytes)))
 feed-bytes known feed text is begins = subst (λ (f : FeedState). MayBeginAt MayStandAt f text) is begins
 
--- a feed that broke could not be read on
-read-off : {X : Type 0} (feed : FeedState) (which : ListKind) (row_at : ℕ → List FieldText → Result X Refusal) (place : ReaderState) (bad : BadList)
-    → IsBrokenOff IsFeedBreak feed which row_at place bad → IsBrokenOff IsReadFault tt which row_at place bad
-read-off feed which row_at place bad broken = record {
-  broke = record { broke = broken.broke.broke; breaks = broken.broke.breaks.kind; is = broken.broke.is };
-  list = broken.list;
-  read = broken.read;
-}
+-- the list of a feed that is to be read
+list-of : {R : Type 0} (remaining : R → Option (List ℕ)) (machine : Machine) (lists : List (ArchList R)) (feeds : List (PartList FeedState)) (feed : PartList FeedState)
+    → AllZip (IsFeedOf remaining machine) lists feeds → IsIn feed feeds → (list : ArchList R) × (IsIn list lists × IsFeedOf remaining machine list feed)
+list-of remaining machine [] [] feed are there = absurd there
+list-of remaining machine [] (other ∷ feeds) feed are there = absurd are
+list-of remaining machine (list ∷ lists) [] feed are there = absurd there
+list-of remaining machine (list ∷ lists) (other ∷ feeds) feed are (inl e) = (list, (inl refl, subst (λ (f : PartList FeedState). IsFeedOf remaining machine list f) (sym e) are.0))
+list-of remaining machine (list ∷ lists) (other ∷ feeds) feed are (inr there) =
+    let found = list-of remaining machine lists feeds feed are.1 there in (found.0, (inr found.1.0, found.1.1))
 
--- a listing that was given
-read-as : (machine : Machine) (text : List ℕ) (of : Part) (given : Result ArchiveListing Refusal) → IsGiven IsFeedBreak machine text of given → IsReadAs machine text of given
-read-as machine text of given (inl same) = inl same
-read-as machine text of given (inr (bad, (off, is))) = inr (bad, (record { words = off.words; known = off.known; reader = tt; cut = by off.cut }, is)) where
-  by : IsCutOff IsFeedBreak off.reader (with_words of.arch off.words) (begun (paragraphs_in (lines_of text))) (begun (paragraphs_in (lines_of of.packages))) bad
-      → IsCutOff IsReadFault tt (with_words of.arch off.words) (begun (paragraphs_in (lines_of text))) (begun (paragraphs_in (lines_of of.packages))) bad
-  by (inl broken) = inl (read-off off.reader Sources source_row_at (begun (paragraphs_in (lines_of text))) bad broken)
-  by (inr (whole, broken)) = inr (whole, read-off off.reader Packages (binary_row_at (with_words of.arch off.words)) (begun (paragraphs_in (lines_of of.packages))) bad broken)
+-- a feed that broke could not be read on
+feed-broke : {R : Type 0} (remaining : R → Option (List ℕ)) (machine : Machine) (lists : List (ArchList R)) (feeds : List (PartList FeedState)) (of part : Part)
+    → AllZip (IsFeedOf remaining machine) lists feeds → of.arch ≡ part.arch → (fault : ControlFault) → BreaksFor IsFeedBreak feeds of fault
+    → IsPartReadFault remaining lists part fault
+feed-broke remaining machine lists feeds of part are same fault broke =
+    let found = list-of remaining machine lists feeds broke.0 are broke.1 in (
+      found.0,
+      found.1.0,
+      sym found.1.1.arch ∙ broke.2 ∙ same,
+      subst (λ (feed : FeedState). IsFeedBreak feed fault) found.1.1.packages broke.3,
+    )
 
 module _ {R : Type 0} (remaining : R → Option (List ℕ)) (machine : Machine) (text known : List ℕ)
-    (alike : begun (paragraphs_in (lines_of text)) ≡ begun (paragraphs_in (lines_of known))) where
+    (alike : begun (paragraphs_in (lines_of text)) ≡ begun (paragraphs_in (lines_of known))) (bad : Option BadList)
+    (all : List (ArchList R)) (all_feeds : List (PartList FeedState)) (all_are : AllZip (IsFeedOf remaining machine) all all_feeds) where
   -- what became of the parts, by the bytes of their readers
   feeds-parts : (lists : List (ArchList R)) (feeds : List (PartList FeedState)) (found : List Part) (records last : Records) (replies : List PartReply)
       → AllZip (IsFeedOf remaining machine) lists feeds → AllZip (IsPartOf (MayBeginAt MayStandAt) machine) feeds found
-      → ArePartsDone (IsGiven IsFeedBreak machine text) found records replies last
-      → (parts : List Part) × (AllZip (IsListOf remaining) lists parts × ArePartsDone (IsReadAs machine known) parts records replies last)
+      → ArePartsDone (IsGiven (BreaksFor IsFeedBreak all_feeds) machine text bad) found records replies last
+      → (parts : List Part) × (AllZip (IsListOf remaining) lists parts × ArePartsDone (IsGiven (IsPartReadFault remaining all) machine known bad) parts records replies last)
   feeds-parts [] [] [] records last [] are begin done = ([], (tt, done))
   feeds-parts [] [] [] records last (reply ∷ replies) are begin done = absurd done
   feeds-parts [] [] (of ∷ found) records last replies are begin done = absurd begin
@@ -209,14 +216,15 @@ module _ {R : Type 0} (remaining : R → Option (List ℕ)) (machine : Machine) 
       let same : of.arch ≡ list.arch = sym begin.0.arch ∙ are.0.arch in
       let part : Part = record { arch = list.arch; packages = bytes.0 } in
       let rest = feeds-parts lists feeds found (records_with records list.arch done.0) last replies are.1 begin.1
-      (subst (λ (arch : List ℕ). ArePartsDone (IsGiven IsFeedBreak machine text) found (records_with records arch done.0) replies last) same done.1.1.1) in (
+      (subst (λ (arch : List ℕ). ArePartsDone (IsGiven (BreaksFor IsFeedBreak all_feeds) machine text bad) found (records_with records arch done.0) replies last) same done.1.1.1) in (
         part ∷ rest.0,
         (
           (record { arch = refl; packages = bytes.1 }, rest.1.0),
           (
             done.0,
             (
-              given-alike IsReadFault machine text known of part done.0 alike same bytes.2 (read-as machine text of done.0 done.1.0),
+              given-alike (BreaksFor IsFeedBreak all_feeds of) (IsPartReadFault remaining all part) machine text known of part bad done.0 alike same bytes.2
+                  (feed-broke remaining machine all all_feeds of part all_are same) done.1.0,
               (done.1.1.0 ∙ (λ i. record { arch = same i; end = end_with records (same i) done.0 }), rest.1.1),
             ),
           ),
@@ -231,14 +239,22 @@ pub feeds-merge : {R : Type 0} (remaining : R → Option (List ℕ)) (machine : 
 feeds-merge remaining machine sources lists feeds last replies o names are lists_done is =
     let bytes = feed-bytes (remaining sources) (fresh (remaining sources)) lists_done.text refl lists_done.begins in
     let end = lists_done.merged.done in
-    let found = feeds-parts remaining machine lists_done.text bytes.0 bytes.2 lists feeds lists_done.merged.given machine.records end.last replies are lists_done.merged.are end.done in record {
+    let found = feeds-parts remaining machine lists_done.text bytes.0 bytes.2 lists_done.bad lists feeds are lists feeds lists_done.merged.given machine.records end.last replies are
+    lists_done.merged.are end.done in record {
       text = bytes.0;
       is = bytes.1;
       parts = found.0;
       are = found.1.0;
       answers = inr (
         archs-refused remaining lists bytes.0 found.0 found.1.0 ∙ names,
-        record { replies = replies; last = end.last; done = found.1.1; is = is ∙ ap (merge_outcome machine replies) (sym end.holds) },
+        record {
+          bad = lists_done.bad;
+          read = read-alike (IsReadFault remaining sources) lists_done.text bytes.0 lists_done.bad bytes.2 lists_done.read;
+          replies = replies;
+          last = end.last;
+          done = found.1.1;
+          is = is ∙ ap (merge_outcome machine replies) (sym end.holds);
+        },
       );
     }
 
@@ -309,7 +325,23 @@ refused-alike (reply ∷ replies) (other ∷ others) zip =
     ∙ (λ i. cond (any-merged-alike (reply ∷ replies) (other ∷ others) zip i) true ((none-merged reply.end ∙ zip.0 ∙ sym (none-merged other.end)) i))
     ∙ sym (none-cond (list_any (λ (r : PartReply). is_merged r.end) (other ∷ others)) (refusal_in other.end))
 
-module _ (machine : Machine) (text : List ℕ) where
+-- what a part was given is what its lists have, or a refusal
+given-or-refused : (SourcesBreak PartBreaks : ControlFault → Type 0) (text : List ℕ) (of : Part) (words : Option OsCpu) (bad : Option BadList) (listing : Result ArchiveListing Refusal)
+    → IsSourcesRead SourcesBreak text bad → IsGivenBy PartBreaks text of words bad listing
+    → (listing ≡ listing_for text of words) ⊎ ((refusal : Refusal) × (listing ≡ Err refusal))
+given-or-refused SourcesBreak PartBreaks text of None bad listing read e = inl e
+given-or-refused SourcesBreak PartBreaks text of (Some words) (Some bad) listing (inl broken) e = inr (refusal_of bad, e)
+given-or-refused SourcesBreak PartBreaks text of (Some words) (Some bad) listing (inr is) e = inl (e ∙ sources-refused text of words (refusal_of bad) is)
+given-or-refused SourcesBreak PartBreaks text of (Some words) None listing read (inl e) = inl e
+given-or-refused SourcesBreak PartBreaks text of (Some words) None listing read (inr broke) = inr (refusal_of broke.0, broke.1.1)
+
+module _ (SourcesBreak : ControlFault → Type 0) (PartBreaks : Part → ControlFault → Type 0) (machine : Machine) (text : List ℕ) (bad : Option BadList)
+    (read : IsSourcesRead SourcesBreak text bad) where
+  part-or-refused : (of : Part) (listing : Result ArchiveListing Refusal) → IsGiven PartBreaks machine text bad of listing
+      → (listing ≡ part_listing machine text of) ⊎ ((refusal : Refusal) × (listing ≡ Err refusal))
+  unfolding part_listing
+  part-or-refused of listing gives = given-or-refused SourcesBreak (PartBreaks of) text of (finite.get machine.archs of.arch) bad listing read gives
+
   -- the parts with lists in place of those that could not be read on: the records after them are the same, and the same parts are merged
   record StandIn (parts : List Part) (records last : Records) (replies : List PartReply) : Type 0 where
     pub others : List Part
@@ -317,34 +349,39 @@ module _ (machine : Machine) (text : List ℕ) where
     pub last_is : last ≡ records_after machine text others records
     pub alike : AllZip AreAlike replies (part_replies machine text others records)
 
-  stand-in : (parts : List Part) (records last : Records) (replies : List PartReply)
-      → ArePartsDone (IsReadAs machine text) parts records replies last → StandIn parts records last replies
-  stand-in [] records last [] done = record { others = []; stand = tt; last_is = done; alike = tt }
-  stand-in [] records last (reply ∷ replies) done = absurd done
-  stand-in (part ∷ parts) records last [] done = absurd done
-  stand-in (part ∷ parts) records last (reply ∷ replies) (listing, (inl is, (told, later))) =
-      let rest = stand-in parts (records_with records part.arch listing) last replies later in record {
-        others = part ∷ rest.others;
-        stand = (record { arch = refl; packages = inl refl }, rest.stand);
-        last_is = rest.last_is ∙ (λ i. records_after machine text rest.others (records_with records part.arch (is i)));
-        alike = (
-          (λ i. is_merged (told i).end) ∙ (λ i. is_merged (end_with records part.arch (is i))),
-          subst (λ (l : Result ArchiveListing Refusal). AllZip AreAlike replies (part_replies machine text rest.others (records_with records part.arch l))) is rest.alike,
-        );
-      }
-  stand-in (part ∷ parts) records last (reply ∷ replies) (listing, (inr (bad_list, (off, is)), (told, later))) =
-      let rest = stand-in parts (records_with records part.arch listing) last replies later in
-      let bad = unread-refused machine text part.arch in
+  one-more : (part : Part) (parts : List Part) (records last : Records) (reply : PartReply) (replies : List PartReply) (listing : Result ArchiveListing Refusal)
+      → (listing ≡ part_listing machine text part) ⊎ ((refusal : Refusal) × (listing ≡ Err refusal))
+      → reply ≡ record { arch = part.arch; end = end_with records part.arch listing } → StandIn parts (records_with records part.arch listing) last replies
+      → StandIn (part ∷ parts) records last (reply ∷ replies)
+  one-more part parts records last reply replies listing (inl is) told rest = record {
+    others = part ∷ rest.others;
+    stand = (record { arch = refl; packages = inl refl }, rest.stand);
+    last_is = rest.last_is ∙ (λ i. records_after machine text rest.others (records_with records part.arch (is i)));
+    alike = (
+      (λ i. is_merged (told i).end) ∙ (λ i. is_merged (end_with records part.arch (is i))),
+      subst (λ (l : Result ArchiveListing Refusal). AllZip AreAlike replies (part_replies machine text rest.others (records_with records part.arch l))) is rest.alike,
+    );
+  }
+  one-more part parts records last reply replies listing (inr (refusal, is)) told rest =
+      let other = unread-refused machine text part.arch in
       let same : records_with records part.arch listing ≡ records_with records part.arch (part_listing machine text (record { arch = part.arch; packages = unread_list })) =
-      ap (records_with records part.arch) is ∙ sym (ap (records_with records part.arch) bad.1) in record {
+      ap (records_with records part.arch) is ∙ sym (ap (records_with records part.arch) other.1) in record {
         others = record { arch = part.arch; packages = unread_list } ∷ rest.others;
         stand = (record { arch = refl; packages = inr refl }, rest.stand);
         last_is = rest.last_is ∙ ap (records_after machine text rest.others) same;
         alike = (
-          (λ i. is_merged (told i).end) ∙ (λ i. is_merged (end_with records part.arch (is i))) ∙ (λ i. is_merged (end_with records part.arch (sym bad.1 i))),
+          (λ i. is_merged (told i).end) ∙ (λ i. is_merged (end_with records part.arch (is i))) ∙ (λ i. is_merged (end_with records part.arch (sym other.1 i))),
           subst (λ (r : Records). AllZip AreAlike replies (part_replies machine text rest.others r)) same rest.alike,
         );
       }
+
+  stand-in : (parts : List Part) (records last : Records) (replies : List PartReply)
+      → ArePartsDone (IsGiven PartBreaks machine text bad) parts records replies last → StandIn parts records last replies
+  stand-in [] records last [] done = record { others = []; stand = tt; last_is = done; alike = tt }
+  stand-in [] records last (reply ∷ replies) done = absurd done
+  stand-in (part ∷ parts) records last [] done = absurd done
+  stand-in (part ∷ parts) records last (reply ∷ replies) (listing, (gives, (told, later))) =
+      one-more part parts records last reply replies listing (part-or-refused part listing gives) told (stand-in parts (records_with records part.arch listing) last replies later)
 
 is-none : {X : Type 0} (o : Option X) → is_none o ≡ true → o ≡ None
 is-none None is = refl
@@ -371,8 +408,9 @@ unfolding step
 merge-accepted machine text parts is = ap (λ (first : Option Refusal). outcome first None machine (Merge text parts)) is
 
 -- a merge of lists with these texts left the office as the step of a command does
-pub texts-step : (text : List ℕ) (parts : List Part) (machine : Machine) (o : Outcome) → IsMergeOfTexts text parts machine o → IsAsStep text parts machine o
-texts-step text parts machine o (inl (refusal, (refused, is))) = record {
+pub texts-step : (SourcesBreak : ControlFault → Type 0) (PartBreaks : Part → ControlFault → Type 0) (text : List ℕ) (parts : List Part) (machine : Machine) (o : Outcome)
+    → IsMergeOfTexts SourcesBreak PartBreaks text parts machine o → IsAsStep text parts machine o
+texts-step SourcesBreak PartBreaks text parts machine o (inl (refusal, (refused, is))) = record {
   others = parts;
   stand = themselves parts;
   left = ap (λ (o : Outcome). o.1) is ∙ sym (ap (λ (o : Outcome). o.1) (step-text machine (Merge text parts) refusal refused));
@@ -382,10 +420,10 @@ texts-step text parts machine o (inl (refusal, (refused, is))) = record {
     themselves : (parts : List Part) → AllZip StandsForPart parts parts
     themselves [] = tt
     themselves (part ∷ parts) = (record { arch = refl; packages = inl refl }, themselves parts)
-texts-step text parts machine o (inr (names, comes)) = record { others = s.others; stand = s.stand; left = both.0; accepted = both.1 }
+texts-step SourcesBreak PartBreaks text parts machine o (inr (names, comes)) = record { others = s.others; stand = s.stand; left = both.0; accepted = both.1 }
   where
-    s : StandIn machine text parts machine.records comes.last comes.replies
-    s = stand-in machine text parts machine.records comes.last comes.replies comes.done
+    s : StandIn SourcesBreak PartBreaks machine text comes.bad comes.read parts machine.records comes.last comes.replies
+    s = stand-in SourcesBreak PartBreaks machine text comes.bad comes.read parts machine.records comes.last comes.replies comes.done
 
     checks : text_refusal (Merge text s.others) ≡ None
     checks = others-refused text parts s.others s.stand ∙ names
@@ -469,29 +507,32 @@ module _ (machine : Machine) (text : List ℕ) where
   unread-refusal None = UnknownArch
   unread-refusal (Some words) = BadListing Sources 1 (Control Read)
 
-  part-unread : (of : Part) (words : Option OsCpu) → finite.get machine.archs of.arch ≡ words → IsReadAs machine text of (Err (unread-refusal words))
-  unfolding part_listing
-  part-unread of None none = inl (sym (ap (listing_for text of) none))
-  part-unread of (Some words) some =
-      let bad : BadList = record { which = Sources; paragraph = 1; fault = Control Read } in
-      let place : ReaderState = begun (paragraphs_in (lines_of text)) in
-      let broken : IsBrokenOff IsReadFault tt Sources source_row_at place bad = record {
-        broke = record { broke = record { paragraph = 1; kind = Read }; breaks = refl; is = refl };
-        list = refl;
-        read = record { rows = []; last = place; reads = refl; next = refl };
-      } in
-      inr (bad, (record { words = words; known = some; reader = tt; cut = inl broken }, refl))
+  -- the fault of a Sources list that could not be read at all
+  abbrev unread-fault : BadList
+  unread-fault = record { which = Sources; paragraph = 1; fault = Control Read }
+
+  sources-unread : IsSourcesRead IsOfRead text (Some unread-fault)
+  sources-unread = inl (record {
+    broke = record { broke = record { paragraph = 1; kind = Read }; breaks = refl; is = refl };
+    list = refl;
+    read = record { rows = []; last = begun (paragraphs_in (lines_of text)); reads = refl; next = refl };
+  })
+
+  part-unread : (of : Part) (words : Option OsCpu) → IsGivenBy IsOfRead text of words (Some unread-fault) (Err (unread-refusal words))
+  part-unread of None = refl
+  part-unread of (Some words) = refl
 
   -- parts of which Sources could not be read at all
   abbrev refused-parts : List Part → List PartReply
   refused-parts [] = []
   refused-parts (part ∷ parts) = record { arch = part.arch; end = end.Refused (unread-refusal (finite.get machine.archs part.arch)) } ∷ refused-parts parts
 
-  parts-refused : (parts : List Part) (records : Records) → ArePartsDone (IsReadAs machine text) parts records (refused-parts parts) records
+  parts-refused : (parts : List Part) (records : Records)
+      → ArePartsDone (IsGiven (λ _. IsOfRead) machine text (Some unread-fault)) parts records (refused-parts parts) records
   parts-refused [] records = refl
   parts-refused (part ∷ parts) records =
       let words = finite.get machine.archs part.arch in
-      (Err (unread-refusal words), (part-unread part words refl, (refl, parts-refused parts records)))
+      (Err (unread-refusal words), (part-unread part words, (refl, parts-refused parts records)))
 
   no-merged : (parts : List Part) → list_any (λ (r : PartReply). is_merged r.end) (refused-parts parts) ≡ false
   no-merged [] = refl
@@ -504,10 +545,10 @@ module _ (machine : Machine) (text : List ℕ) where
       (refusal, ap (λ (b : Bool). cond b None (Some refusal)) (no-merged (part ∷ parts)))
 
   -- a merge of lists that could not be read on is refused, and leaves the office as it was
-  pub texts-unread : (parts : List Part) → (refusal : Refusal) × IsMergeOfTexts text parts machine (Err refusal, machine)
+  pub texts-unread : (parts : List Part) → (refusal : Refusal) × IsMergeOfTexts IsOfRead (λ _. IsOfRead) text parts machine (Err refusal, machine)
   texts-unread parts = by (text_refusal (Merge text parts)) refl
     where
-      by : (refused : Option Refusal) → text_refusal (Merge text parts) ≡ refused → (refusal : Refusal) × IsMergeOfTexts text parts machine (Err refusal, machine)
+      by : (refused : Option Refusal) → text_refusal (Merge text parts) ≡ refused → (refusal : Refusal) × IsMergeOfTexts IsOfRead (λ _. IsOfRead) text parts machine (Err refusal, machine)
       by (Some refusal) is = (refusal, inl (refusal, (is, refl)))
       by None is =
           let why = refused-by parts in (
@@ -515,6 +556,8 @@ module _ (machine : Machine) (text : List ℕ) where
             inr (
               is,
               record {
+                bad = Some unread-fault;
+                read = sources-unread;
                 replies = refused-parts parts;
                 last = machine.records;
                 done = parts-refused parts machine.records;
@@ -522,3 +565,51 @@ module _ (machine : Machine) (text : List ℕ) where
               },
             ),
           )
+
+-- ---- readers that may break with more faults
+
+-- parts that were merged or refused, by more faults with which their readers may have broken
+done-more : (One Other : Part → ControlFault → Type 0) → ((of : Part) (fault : ControlFault) → One of fault → Other of fault) → (machine : Machine) (text : List ℕ)
+    (bad : Option BadList) (parts : List Part) (records last : Records) (replies : List PartReply)
+    → ArePartsDone (IsGiven One machine text bad) parts records replies last → ArePartsDone (IsGiven Other machine text bad) parts records replies last
+done-more One Other more machine text bad [] records last [] done = done
+done-more One Other more machine text bad [] records last (reply ∷ replies) done = absurd done
+done-more One Other more machine text bad (part ∷ parts) records last [] done = absurd done
+done-more One Other more machine text bad (part ∷ parts) records last (reply ∷ replies) (listing, (gives, (told, later))) = (
+  listing,
+  (
+    given-more (One part) (Other part) text part (finite.get machine.archs part.arch) bad listing (more part) gives,
+    (told, done-more One Other more machine text bad parts (records_with records part.arch listing) last replies later),
+  ),
+)
+
+read-more : (One Other : ControlFault → Type 0) → ((fault : ControlFault) → One fault → Other fault) → (text : List ℕ) (bad : Option BadList)
+    → IsSourcesRead One text bad → IsSourcesRead Other text bad
+read-more One Other more text None read = read
+read-more One Other more text (Some bad) (inl broken) = inl (broken-more One Other Sources source_row_at (begun (paragraphs_in (lines_of text))) bad more broken)
+read-more One Other more text (Some bad) (inr is) = inr is
+
+-- a merge of lists, by more faults with which their readers may have broken
+pub texts-more : (SourcesBreak SourcesMay : ControlFault → Type 0) (PartBreaks PartMay : Part → ControlFault → Type 0)
+    → ((fault : ControlFault) → SourcesBreak fault → SourcesMay fault) → ((of : Part) (fault : ControlFault) → PartBreaks of fault → PartMay of fault)
+    → (text : List ℕ) (parts : List Part) (machine : Machine) (o : Outcome)
+    → IsMergeOfTexts SourcesBreak PartBreaks text parts machine o → IsMergeOfTexts SourcesMay PartMay text parts machine o
+texts-more SourcesBreak SourcesMay PartBreaks PartMay sources packages text parts machine o (inl names) = inl names
+texts-more SourcesBreak SourcesMay PartBreaks PartMay sources packages text parts machine o (inr (names, comes)) = inr (
+  names,
+  record {
+    bad = comes.bad;
+    read = read-more SourcesBreak SourcesMay sources text comes.bad comes.read;
+    replies = comes.replies;
+    last = comes.last;
+    done = done-more PartBreaks PartMay packages machine text comes.bad parts machine.records comes.last comes.replies comes.done;
+    is = comes.is;
+  },
+)
+
+-- a merge of what readers give is one of lists that could be read on or not
+pub read-texts : {R : Type 0} (remaining : R → Option (List ℕ)) (sources : R) (lists : List (ArchList R)) (machine : Machine) (o : Outcome)
+    → (merge : IsMergeOf remaining sources lists machine o) → IsMergeOfTexts IsOfRead (λ _. IsOfRead) merge.text merge.parts machine o
+read-texts remaining sources lists machine o merge =
+    texts-more (IsReadFault remaining sources) IsOfRead (IsPartReadFault remaining lists) (λ _. IsOfRead) (λ fault broke. broke.kind) (λ of fault broke. broke.3.kind)
+    merge.text merge.parts machine o merge.answers

@@ -19,10 +19,10 @@ refusal_of bad = BadListing bad.which bad.paragraph bad.fault
 abbrev pub control_bad : ListKind → ControlFault → BadList
 control_bad which fault = record { which = which; paragraph = fault.paragraph; fault = Control fault.kind }
 
--- the fault of a list is that the reader broke there
-pub record IsBreak {R : Type 0} (Breaks : R → ControlFault → Type 0) (reader : R) (bad : BadList) : Type 0 where
+-- the fault of a list is that its reader broke there, with a fault of which this is so
+pub record IsBreak (Breaks : ControlFault → Type 0) (bad : BadList) : Type 0 where
   pub broke : ControlFault
-  pub breaks : Breaks reader broke
+  pub breaks : Breaks broke
   pub is : bad ≡ control_bad bad.which broke
 
 -- what is so of the fault of a list that was read

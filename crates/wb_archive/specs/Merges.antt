@@ -6,22 +6,24 @@ use Rattle.deb_control.specs.declared.fault.ControlFault.{ControlFault}
 use Rattle.deb_control.specs.Lines.{lines_of, paragraphs_in}
 use Rattle.deb_control.specs.Paragraphs.{ReaderState, begun}
 use Rattle.deb_relations.specs.declared.arch.ArchWords.{ArchWords}
+use Rattle.deb_text.specs.Lists.{IsIn}
 use Rattle.wb_states.specs.declared.arch.OsCpu.{OsCpu}
 use Rattle.wb_states.specs.declared.command.Part.{Part}
 use Rattle.wb_states.specs.declared.refusal.ListKind.TheVariants.{Packages, Sources}
 use Rattle.wb_states.specs.declared.refusal.Refusal.{Refusal}
+use Rattle.wb_states.specs.declared.refusal.Refusal.TheVariants.{UnknownArch}
 use Rattle.wb_states.specs.declared.reply.PartEnd.{PartEnd}
 use Rattle.wb_states.specs.declared.reply.PartReply.{PartReply}
 use Rattle.wb_states.specs.Machine.{Machine, with_words}
 use Rattle.wb_merge.specs.Listing.{ArchiveListing}
 use Rattle.wb_merge.specs.Merged.{Records}
-use Rattle.wb_merge.specs.Scratch.{binary_row_at, source_row_at}
-use Rattle.wb_step.specs.Parts.{end_with, part_listing, records_with}
+use Rattle.wb_merge.specs.Scratch.{binary_row_at, kept_sources, source_row_at}
+use Rattle.wb_step.specs.Parts.{end_with, listing_for, records_with}
 use Rattle.wb_archive.specs.declared.fault.BadList.{BadList}
 use Rattle.wb_archive.specs.declared.merge.PartList.{PartList}
 use Rattle.wb_archive.specs.Faults.{refusal_of}
 use Rattle.wb_archive.specs.Parts.{IsPartDone}
-use Rattle.wb_archive.specs.Reads.{IsBrokenOff, sources_at}
+use Rattle.wb_archive.specs.Reads.{IsBrokenOff, IsRefused}
 
 -- ---- the lists that readers have
 
@@ -61,25 +63,30 @@ archs_of (part ∷ parts) = arch_of part.arch part.words ++ archs_of parts
 
 -- ---- what became of them
 
--- the fault of the lists of an architecture's part is that a reader broke: that of Sources, or that of Packages after a Sources without a fault
-abbrev pub IsCutOff : {R : Type 0} → (R → ControlFault → Type 0) → R → ArchWords → ReaderState → ReaderState → BadList → Type 0
-IsCutOff Breaks reader arch sources packages bad =
-    IsBrokenOff Breaks reader Sources source_row_at sources bad
-    ⊎ (IsOk (sources_at sources) × IsBrokenOff Breaks reader Packages (binary_row_at arch) packages bad)
+-- a Sources list of this text was read, or is refused with this fault: its first, or that its reader broke before one was read
+abbrev pub IsSourcesRead : (ControlFault → Type 0) → List ℕ → Option BadList → Type 0
+IsSourcesRead Breaks text None = IsOk (kept_sources text)
+IsSourcesRead Breaks text (Some bad) = IsRefused Breaks Sources source_row_at (begun (paragraphs_in (lines_of text))) bad
 
--- the same of a part whose architecture was added to this office
-pub record IsPartCutOff {R : Type 0} (Breaks : R → ControlFault → Type 0) (machine : Machine) (arch : List ℕ) (sources packages : ReaderState) (bad : BadList) : Type 0 where
-  pub words : OsCpu
-  pub known : finite.get machine.archs arch ≡ Some words
-  pub reader : R
-  pub cut : IsCutOff Breaks reader (with_words arch words) sources packages bad
+-- the list of a part could not be read on: its reader broke at a paragraph before which none has a fault
+abbrev pub IsPartBrokenOff : (ControlFault → Type 0) → Part → OsCpu → BadList → Type 0
+IsPartBrokenOff Breaks of words bad = IsBrokenOff Breaks Packages (binary_row_at (with_words of.arch words)) (begun (paragraphs_in (lines_of of.packages))) bad
 
--- a part was given this listing: the one that its lists have, or a refusal since the reader of a list broke
-abbrev pub IsGiven : {R : Type 0} → (R → ControlFault → Type 0) → Machine → List ℕ → Part → Result ArchiveListing Refusal → Type 0
-IsGiven Breaks machine text of given =
-    (given ≡ part_listing machine text of)
-    ⊎ ((bad : BadList) × (IsPartCutOff Breaks machine of.arch (begun (paragraphs_in (lines_of text))) (begun (paragraphs_in (lines_of of.packages))) bad
-    × (given ≡ Err (refusal_of bad))))
+-- a part was given this listing, by the words of its architecture, if it was added, and why Sources is refused, if it is:
+-- first UnknownArch, then the fault of Sources, and then what the lists have, or a refusal since the reader of Packages broke
+abbrev pub IsGivenBy : (ControlFault → Type 0) → List ℕ → Part → Option OsCpu → Option BadList → Result ArchiveListing Refusal → Type 0
+IsGivenBy Breaks text of None bad given = given ≡ Err UnknownArch
+IsGivenBy Breaks text of (Some words) (Some bad) given = given ≡ Err (refusal_of bad)
+IsGivenBy Breaks text of (Some words) None given =
+    (given ≡ listing_for text of (Some words)) ⊎ ((bad : BadList) × (IsPartBrokenOff Breaks of words bad × (given ≡ Err (refusal_of bad))))
+
+-- the same in this office, of parts of which the reader of each broke with such faults
+abbrev pub IsGiven : (Part → ControlFault → Type 0) → Machine → List ℕ → Option BadList → Part → Result ArchiveListing Refusal → Type 0
+IsGiven Breaks machine text bad of given = IsGivenBy (Breaks of) text of (finite.get machine.archs of.arch) bad given
+
+-- the reader of a list of the part's architecture, among these, broke with this fault
+abbrev pub BreaksFor : {R : Type 0} → (R → ControlFault → Type 0) → List (PartList R) → Part → ControlFault → Type 0
+BreaksFor {R} Breaks parts of fault = (list : PartList R) × IsIn list parts × (list.arch ≡ of.arch) × Breaks list.packages fault
 
 -- the parts were merged or refused in their order, each by the listing that it was given, from the first records to the last
 abbrev pub ArePartsDone : (Part → Result ArchiveListing Refusal → Type 0) → List Part → Records → List PartReply → Records → Type 0
@@ -111,9 +118,19 @@ pub record IsMergeOfParts {R : Type 0} (MayStand : R → ReaderState → Type 0)
   pub are : AllZip (IsPartOf (MayBeginAt MayStand) machine) parts given
   pub done : IsMergeDone Gives Holds given records replies
 
--- lists were merged: there are a text of Sources and one of each part, at which their readers may have begun, and each part was merged or refused by the listing that these gave
+-- lists were merged: there are a text of Sources and one of each part, at which their readers may have begun; Sources was
+-- read or is refused; and each part was merged or refused by the listing that these gave
 pub record IsMergeOfLists {R : Type 0} (MayStand : R → ReaderState → Type 0) (Breaks : R → ControlFault → Type 0) (machine : Machine) (Holds : Records → Type 0)
     (sources : R) (parts : List (PartList R)) (records : Records) (replies : List PartReply) : Type 0 where
   pub text : List ℕ
   pub begins : MayBeginAt MayStand sources text
-  pub merged : IsMergeOfParts MayStand machine (IsGiven Breaks machine text) Holds parts records replies
+  pub bad : Option BadList
+  pub read : IsSourcesRead (Breaks sources) text bad
+  pub merged : IsMergeOfParts MayStand machine (IsGiven (BreaksFor Breaks parts) machine text bad) Holds parts records replies
+
+-- what a merge of lists with these texts made of the records: Sources was read or is refused, and the parts were merged or refused in their order
+pub record IsMergeOfKnown (SourcesBreak : ControlFault → Type 0) (PartBreaks : Part → ControlFault → Type 0) (machine : Machine) (Holds : Records → Type 0) (text : List ℕ)
+    (given : List Part) (records : Records) (replies : List PartReply) : Type 0 where
+  pub bad : Option BadList
+  pub read : IsSourcesRead SourcesBreak text bad
+  pub done : IsMergeDone (IsGiven PartBreaks machine text bad) Holds given records replies

@@ -28,10 +28,10 @@ abbrev pub listing_from : ArchWords → List SourceRow → ReaderState → Resul
 listing_from arch sources place = listing_kept arch (Ok sources) (binaries_at arch place)
 
 -- a part's Packages gave this listing, with these rows of Sources: the one that they have, or a refusal since its reader broke
-abbrev pub IsListing : {R : Type 0} → (R → ControlFault → Type 0) → R → ArchWords → List SourceRow → ReaderState → Result ArchiveListing Refusal → Type 0
-IsListing Breaks reader arch sources place given =
+abbrev pub IsListing : (ControlFault → Type 0) → ArchWords → List SourceRow → ReaderState → Result ArchiveListing Refusal → Type 0
+IsListing Breaks arch sources place given =
     (given ≡ listing_from arch sources place)
-    ⊎ ((bad : BadList) × (IsBrokenOff Breaks reader Packages (binary_row_at arch) place bad × (given ≡ Err (refusal_of bad))))
+    ⊎ ((bad : BadList) × (IsBrokenOff Breaks Packages (binary_row_at arch) place bad × (given ≡ Err (refusal_of bad))))
 
 -- a part was merged or refused by the listing that its list gave, and the tables have the records after it
 pub record IsPartDone (Gives : Result ArchiveListing Refusal → Type 0) (Holds : Records → Type 0) (records : Records) (arch : List ℕ) (end : PartEnd) : Type 0 where

@@ -1,11 +1,12 @@
 -- A merge of lists that readers give: what it answers, and what it makes of the office.
-use Rattle.std.specs.Prelude.{◌≡◌, ◌⊎◌, ⊤, ℕ, ◌+◌, Bool, true, false, not, ◌||◌, nat_le, List, [], ◌∷◌, bytes_eq, codes, Option, None, Some, if◌then◌else◌, Result, Ok, Err, IsOk}
+use Rattle.std.specs.Prelude.{◌≡◌, ◌⊎◌, ℕ, ◌+◌, Bool, true, false, not, ◌||◌, nat_le, List, [], ◌∷◌, bytes_eq, codes, Option, None, Some, if◌then◌else◌, Ok, Err, IsOk}
 use Rattle.std.specs.FinMap as finite
 use Rattle.std.specs.List.{AllZip, list_any}
 use Rattle.deb_control.specs.FeedState.{FeedState, fresh}
 use Rattle.deb_control.specs.Source.{MayBeLeft}
 use Rattle.deb_control.specs.declared.fault.ControlFault.{ControlFault}
 use Rattle.deb_control.specs.declared.fault.ControlFaultKind.TheVariants.{Read}
+use Rattle.deb_text.specs.Lists.{IsIn}
 use Rattle.deb_text.specs.Options.{first_some}
 use Rattle.wb_states.specs.declared.command.Part.{Part}
 use Rattle.wb_states.specs.declared.refusal.Refusal.{Refusal}
@@ -19,14 +20,15 @@ use Rattle.wb_states.specs.Forms.{Merge}
 use Rattle.wb_states.specs.Limits.{count_limit}
 use Rattle.wb_states.specs.Machine.{Machine}
 use Rattle.wb_states.specs.Names.{is_arch_name}
-use Rattle.wb_merge.specs.Listing.{ArchiveListing}
 use Rattle.wb_merge.specs.Merged.{Records}
 use Rattle.wb_step.specs.Checks.{text_refusal, when}
 use Rattle.wb_step.specs.Parts.{is_merged}
 use Rattle.wb_step.specs.Step.{Outcome, step}
+use Rattle.wb_archive.specs.declared.fault.BadList.{BadList}
 use Rattle.wb_archive.specs.declared.merge.PartList.{PartList}
 use Rattle.wb_archive.specs.declared.merge_from.ArchList.{ArchList}
-use Rattle.wb_archive.specs.Merges.{ArePartsDone, IsGiven}
+use Rattle.wb_archive.specs.Feeds.{IsFeedBreak}
+use Rattle.wb_archive.specs.Merges.{ArePartsDone, IsGiven, IsSourcesRead}
 
 -- ---- the names of the architectures
 
@@ -69,28 +71,35 @@ outcome_by None false machine replies last = (Ok (Merged (machine.accepted + 1) 
 abbrev pub merge_outcome : Machine → List PartReply → Records → Outcome
 merge_outcome machine replies last = outcome_by (refusal_by replies) (nat_le count_limit machine.accepted) machine replies last
 
--- a list could not be read on: whatever its reader is, this is its fault
-abbrev pub IsReadFault : ⊤ → ControlFault → Type 0
-IsReadFault reader fault = fault.kind ≡ Read
-
--- a part was given this listing: the one that its lists have, or the refusal that a list could not be read on, none of whose paragraphs before that has a fault
-abbrev pub IsReadAs : Machine → List ℕ → Part → Result ArchiveListing Refusal → Type 0
-IsReadAs machine text of given = IsGiven IsReadFault machine text of given
-
--- a merge of lists with these texts, which were read, came to this: each part was merged or refused in its order
-pub record ComesTo (text : List ℕ) (parts : List Part) (machine : Machine) (outcome : Outcome) : Type 0 where
+-- a merge of lists with these texts, whose readers broke with no other faults than such, came to this: Sources was read or is refused, and each part was merged or refused in its order
+pub record ComesTo (SourcesBreak : ControlFault → Type 0) (PartBreaks : Part → ControlFault → Type 0) (text : List ℕ) (parts : List Part) (machine : Machine) (outcome : Outcome)
+    : Type 0 where
+  pub bad : Option BadList
+  pub read : IsSourcesRead SourcesBreak text bad
   pub replies : List PartReply
   pub last : Records
-  pub done : ArePartsDone (IsReadAs machine text) parts machine.records replies last
+  pub done : ArePartsDone (IsGiven PartBreaks machine text bad) parts machine.records replies last
   pub is : outcome ≡ merge_outcome machine replies last
 
 -- a merge of lists with these texts is answered so, and leaves the office so: its names are refused, or its lists are read
-abbrev pub IsMergeOfTexts : List ℕ → List Part → Machine → Outcome → Type 0
-IsMergeOfTexts text parts machine outcome =
+abbrev pub IsMergeOfTexts : (ControlFault → Type 0) → (Part → ControlFault → Type 0) → List ℕ → List Part → Machine → Outcome → Type 0
+IsMergeOfTexts SourcesBreak PartBreaks text parts machine outcome =
     ((refusal : Refusal) × ((text_refusal (Merge text parts) ≡ Some refusal) × (outcome ≡ (Err refusal, machine))))
-    ⊎ ((text_refusal (Merge text parts) ≡ None) × ComesTo text parts machine outcome)
+    ⊎ ((text_refusal (Merge text parts) ≡ None) × ComesTo SourcesBreak PartBreaks text parts machine outcome)
+
+-- a list could not be read on, whatever its reader is
+abbrev pub IsOfRead : ControlFault → Type 0
+IsOfRead fault = fault.kind ≡ Read
 
 -- ---- readers
+
+-- a list could not be read on: a read of its reader failed, or as many bytes were read of it as may be, and more follow
+abbrev pub IsReadFault : {R : Type 0} → (R → Option (List ℕ)) → R → ControlFault → Type 0
+IsReadFault remaining reader fault = IsFeedBreak (fresh (remaining reader)) fault
+
+-- the list of the part's architecture, among these, could not be read on
+abbrev pub IsPartReadFault : {R : Type 0} → (R → Option (List ℕ)) → List (ArchList R) → Part → ControlFault → Type 0
+IsPartReadFault {R} remaining lists of fault = (list : ArchList R) × IsIn list lists × (list.arch ≡ of.arch) × IsReadFault remaining list.packages fault
 
 -- a list is this part of a merge: for its architecture, and with the bytes that its reader has, if those are known
 pub record IsListOf {R : Type 0} (remaining : R → Option (List ℕ)) (list : ArchList R) (part : Part) : Type 0 where
@@ -109,7 +118,7 @@ pub record IsMergeOf {R : Type 0} (remaining : R → Option (List ℕ)) (sources
   pub is : MayBeLeft (remaining sources) text
   pub parts : List Part
   pub are : AllZip (IsListOf remaining) lists parts
-  pub answers : IsMergeOfTexts text parts machine outcome
+  pub answers : IsMergeOfTexts (IsReadFault remaining sources) (IsPartReadFault remaining lists) text parts machine outcome
 
 -- what a merge of what readers give may leave of the office if its commit is in doubt, beside the office as it was
 abbrev pub MayLeave : {R : Type 0} → (R → Option (List ℕ)) → R → List (ArchList R) → Machine → Machine → Type 0

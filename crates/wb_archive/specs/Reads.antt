@@ -70,12 +70,12 @@ pub record IsReadUpTo {X : Type 0} (row_at : ℕ → List FieldText → Result X
   pub next : number ≡ last.passed + 1
 
 -- the fault of this list is that its reader broke, and the paragraphs before that were read, each without a fault
-pub record IsBrokenOff {R X : Type 0} (Breaks : R → ControlFault → Type 0) (reader : R) (which : ListKind) (row_at : ℕ → List FieldText → Result X Refusal) (place : ReaderState)
-    (bad : BadList) : Type 0 where
-  pub broke : IsBreak Breaks reader bad
+pub record IsBrokenOff {X : Type 0} (Breaks : ControlFault → Type 0) (which : ListKind) (row_at : ℕ → List FieldText → Result X Refusal) (place : ReaderState) (bad : BadList)
+    : Type 0 where
+  pub broke : IsBreak Breaks bad
   pub list : bad.which ≡ which
   pub read : IsReadUpTo row_at place bad.paragraph
 
 -- this list is refused: for its first fault, or since its reader broke before one was read
-abbrev pub IsRefused : {R X : Type 0} → (R → ControlFault → Type 0) → R → ListKind → (ℕ → List FieldText → Result X Refusal) → ReaderState → BadList → Type 0
-IsRefused Breaks reader which row_at place bad = IsBrokenOff Breaks reader which row_at place bad ⊎ (kept_at which row_at place ≡ Err (refusal_of bad))
+abbrev pub IsRefused : {X : Type 0} → (ControlFault → Type 0) → ListKind → (ℕ → List FieldText → Result X Refusal) → ReaderState → BadList → Type 0
+IsRefused Breaks which row_at place bad = IsBrokenOff Breaks which row_at place bad ⊎ (kept_at which row_at place ≡ Err (refusal_of bad))

@@ -1,27 +1,20 @@
 -- What the tables have of a Sources list while the parts of a merge are read.
-use Rattle.std.specs.Prelude.{◌≡◌, ◌⊎◌, ℕ, List, Option, None, Some, Err}
+use Rattle.std.specs.Prelude.{◌≡◌, ⊤, ℕ, List, Option, None, Some}
 use Rattle.std.specs.List.{AllByRecursion}
-use Rattle.deb_control.specs.declared.fault.ControlFault.{ControlFault}
-use Rattle.deb_control.specs.Lines.{lines_of, paragraphs_in}
-use Rattle.deb_control.specs.Paragraphs.{begun}
 use Rattle.deb_relations.specs.declared.arch.ArchWords.{ArchWords}
 use Rattle.deb_text.specs.Lists.{IsIn}
 use Rattle.wb_states.specs.declared.arch.OsCpu.{OsCpu}
-use Rattle.wb_states.specs.declared.refusal.ListKind.TheVariants.{Sources}
 use Rattle.wb_states.specs.declared.scratch.SourceRow.{SourceRow}
 use Rattle.wb_states.specs.Machine.{with_words}
-use Rattle.wb_merge.specs.Scratch.{kept_sources, source_row_at}
+use Rattle.wb_merge.specs.Scratch.{kept_sources}
 use Rattle.wb_archive.specs.declared.fault.BadList.{BadList}
 use Rattle.wb_archive.specs.declared.merge.PartList.{PartList}
-use Rattle.wb_archive.specs.Faults.{refusal_of}
 use Rattle.wb_archive.specs.Fills.{WithRows, sources_wanted}
-use Rattle.wb_archive.specs.Reads.{IsBrokenOff}
 
--- a Sources list was read into the table, of its rows those that can matter to these architectures; or it is refused for its fault, or since its reader broke
-abbrev pub HasSources : {R : Type 0} → (R → ControlFault → Type 0) → List ℕ → List ArchWords → List SourceRow → Option BadList → Type 0
-HasSources Breaks text archs table None = WithRows (kept_sources text) (λ rows. table ≡ sources_wanted archs rows)
-HasSources {R} Breaks text archs table (Some bad) =
-    ((reader : R) × IsBrokenOff Breaks reader Sources source_row_at (begun (paragraphs_in (lines_of text))) bad) ⊎ (kept_sources text ≡ Err (refusal_of bad))
+-- if a Sources list is not refused, it was read into the table, of its rows those that can matter to these architectures
+abbrev pub HasSources : List ℕ → List ArchWords → List SourceRow → Option BadList → Type 0
+HasSources text archs table None = WithRows (kept_sources text) (λ rows. table ≡ sources_wanted archs rows)
+HasSources text archs table (Some bad) = ⊤
 
 -- the architecture of a part, if it was added, is among these
 abbrev pub AreKnown : List ArchWords → List ℕ → Option OsCpu → Type 0

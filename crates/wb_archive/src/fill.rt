@@ -125,7 +125,7 @@ pub fn fill_sources<T: MergeTables, R: ReadParagraphs>(
         → R.passed list.old ≡ 0 → at.now.sources ≡ []
         → IfOk result (λ bad. MayStandWhere R.may_stand_at list.old (λ place. IsFilled (sources_at place)
         (sources_wanted archs.now) (λ rows. T.holds tables.new (with_sources rows at))
-        (IsRefused R.breaks list.new Sources source_row_at place) bad)) }
+        (IsRefused (R.breaks list.old) Sources source_row_at place) bad)) }
     ensures follows { OnOk result (T.follows tables.old tables.new) }
     ensures stops { IfErr result (StopsAs T.follows T.fails tables.old tables.new) }
 {
@@ -157,7 +157,7 @@ pub fn fill_binaries<T: MergeTables, R: ReadParagraphs>(
         → R.passed list.old ≡ 0 → at.now.binaries ≡ []
         → IfOk result (λ bad. MayStandWhere R.may_stand_at list.old (λ place. IsFilled (packages_at arch.now place)
         (binaries_wanted (contains text_cmp waited.now)) (λ rows. T.holds tables.new (with_binaries rows at))
-        (IsRefused R.breaks list.new Packages (binary_row_at arch.now) place) bad)) }
+        (IsRefused (R.breaks list.old) Packages (binary_row_at arch.now) place) bad)) }
     ensures follows { OnOk result (T.follows tables.old tables.new) }
     ensures stops { IfErr result (StopsAs T.follows T.fails tables.old tables.new) }
 {

@@ -1,11 +1,11 @@
 //! The merge of an archive's lists: Sources is read once, and then each part in its order.
-ghost use Rattle.std.specs.Prelude.{◌≡◌, ◌++◌, ℕ, List, [], ◌∷◌, None, Some, Err, IfOk, IfErr, OnOk};
+ghost use Rattle.std.specs.Prelude.{◌≡◌, ◌++◌, ℕ, List, [], ◌∷◌, None, Some, IfOk, IfErr, OnOk};
 ghost use Rattle.std.specs.List.{AllByRecursion};
 ghost use Rattle.deb_relations.specs.declared.arch.ArchWords.{ArchWords};
 ghost use Rattle.wb_states.specs.Machine.{Machine};
 ghost use Rattle.wb_states.specs.declared.reply.PartEnd.TheVariants.{Refused};
 ghost use Rattle.wb_archive.specs.Faults.{StopsAs, refusal_of};
-ghost use Rattle.wb_archive.specs.Merges.{IsGiven, IsMergeOfLists, IsMergeOfParts, IsPartMerged, IsPartUnread, IsUnread, arch_of, archs_of};
+ghost use Rattle.wb_archive.specs.Merges.{BreaksFor, IsGiven, IsMergeOfLists, IsMergeOfParts, IsPartMerged, IsPartUnread, IsUnread, arch_of, archs_of};
 ghost use Rattle.wb_archive.specs.Parts.{IsPartEnd};
 ghost use Rattle.wb_archive.specs.Sources.{AreAllKnown, AreKnown, HasSources};
 ghost use Rattle.wb_archive.specs.Tables.{Tables, with_binaries, with_records, with_sources};
@@ -70,7 +70,8 @@ fn refused(bad: BadList) -> PartEnd
     }
 }
 
-/// Merges a part, given the fault for which Sources is refused, if it is. A part whose architecture is not known is not read.
+/// Merges a part, given the fault for which Sources is refused, if it is. The list of a part whose architecture was never added
+/// is not read.
 fn merge_known<T: MergeTables, R: ReadParagraphs>(
     alloc: Global,
     tables: &mut T,
@@ -82,10 +83,11 @@ fn merge_known<T: MergeTables, R: ReadParagraphs>(
     ensures value { (at : Tables) (machine : Machine) (text : List ℕ) (archs : List ArchWords)
         → T.is_clean tables.new → T.holds tables.old at → at.saved ≡ None → at.now.binaries ≡ []
         → IsPartUnread R.may_stand_at machine (record { arch = name.now; words = words.now; packages = packages.old })
-        → HasSources R.breaks text archs at.now.sources bad → AreKnown archs name.now words.now
-        → IfOk result (IsPartMerged R.may_stand_at machine (IsGiven R.breaks machine text)
+        → HasSources text archs at.now.sources bad → AreKnown archs name.now words.now
+        → IfOk result (IsPartMerged R.may_stand_at machine (IsGiven (λ _. R.breaks packages.old) machine text bad)
         (λ records. T.holds tables.new (with_records records at))
         (record { arch = name.now; words = words.now; packages = packages.old }) at.now.machine.records) }
+    ensures unread { words.now ≡ None → packages.new ≡ packages.old }
     ensures kind { IfOk result IsPartEnd }
     ensures follows { OnOk result (T.follows tables.old tables.new) }
     ensures stops { IfErr result (StopsAs T.follows T.fails tables.old tables.new) }
@@ -112,10 +114,10 @@ fn reply_to<T: MergeTables, R: ReadParagraphs>(
 ) -> Result<PartReply, MergeFault<T::Fault>>
     ensures value { (at : Tables) (machine : Machine) (text : List ℕ) (archs : List ArchWords)
         → T.is_clean tables.new → T.holds tables.old at → at.saved ≡ None → at.now.binaries ≡ []
-        → IsPartUnread R.may_stand_at machine part → HasSources R.breaks text archs at.now.sources bad
+        → IsPartUnread R.may_stand_at machine part → HasSources text archs at.now.sources bad
         → AreKnown archs part.arch part.words
         → IfOk result (λ reply. (reply.arch ≡ part.arch) × IsPartMerged R.may_stand_at machine
-        (IsGiven R.breaks machine text) (λ records. T.holds tables.new (with_records records at))
+        (IsGiven (λ _. R.breaks part.packages) machine text bad) (λ records. T.holds tables.new (with_records records at))
         part at.now.machine.records reply.end) }
     ensures kind { IfOk result (λ reply. IsPartEnd reply.end) }
     ensures follows { OnOk result (T.follows tables.old tables.new) }
@@ -148,9 +150,9 @@ fn merge_parts<T: MergeTables, R: ReadParagraphs>(
     ensures value { (at : Tables) (machine : Machine) (text : List ℕ) (archs : List ArchWords)
         → T.is_clean tables.new → T.holds tables.old at → at.saved ≡ None → at.now.binaries ≡ []
         → AllByRecursion (IsPartUnread R.may_stand_at machine) parts.items
-        → HasSources R.breaks text archs at.now.sources bad → AreAllKnown archs parts.items
+        → HasSources text archs at.now.sources bad → AreAllKnown archs parts.items
         → IfOk result (λ replies. IsMergeOfParts R.may_stand_at machine
-        (IsGiven R.breaks machine text) (λ records. T.holds tables.new (with_records records at))
+        (IsGiven (BreaksFor R.breaks parts.items) machine text bad) (λ records. T.holds tables.new (with_records records at))
         parts.items at.now.machine.records replies.items) }
     ensures kinds { IfOk result (λ replies. AllByRecursion (λ reply. IsPartEnd reply.end) replies.items) }
     ensures follows { OnOk result (T.follows tables.old tables.new) }
@@ -177,7 +179,7 @@ fn clear_all<T: MergeTables>(tables: &mut T) -> Result<(), MergeFault<T::Fault>>
 /// Merges an archive's lists, of which no paragraph was read before, into the records of the tables, paragraph by
 /// paragraph: Sources is read once, into its table, and then each part in its order, within a savepoint of its own. A
 /// part whose architecture was never added is not read and is refused with `UnknownArch`; one whose list is refused, or
-/// all if Sources is, changes nothing and says why. In the end no row of the lists is left and no savepoint. The errors
+/// each other if Sources is, changes nothing and says why. In the end no row of the lists is left and no savepoint. The errors
 /// are `Memory` if memory ran out, or if a list has 2^63 - 1 paragraphs or more, which cannot all be numbered, and else
 /// the first fault of the tables; the caller then takes its transaction back (this project's own).
 pub fn merge_lists<T: MergeTables, R: ReadParagraphs>(

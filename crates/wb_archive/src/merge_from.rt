@@ -70,10 +70,10 @@ pub trait MergeFrom: CarryOut {
     /// [`carry_out`](CarryOut::carry_out) answers a merge of the bytes that the readers give.
     ///
     /// The names of the architectures are tested before anything is read: `BadName` comes if one is malformed, and
-    /// `RepeatedArch` if two are the same. Sources is read once, before the others; a Packages list is not read if its
-    /// architecture was never added. A list of which a read fails, an interrupted one too, or that has more than
-    /// 2147483648 bytes is refused with `BadListing` and the fault `Read`, unless a paragraph before that is at fault;
-    /// a refused Sources list refuses each part. `Memory` comes if there is no memory for a part or a paragraph, the office
+    /// `RepeatedArch` if two are the same. Sources is read once, before the others. A part whose architecture was never
+    /// added is refused with `UnknownArch`, and its list is not read. A list of which a read fails, an interrupted one too,
+    /// or that has more than 2147483648 bytes is refused with `BadListing` and the fault `Read`, unless a paragraph before
+    /// that is at fault; a refused Sources list refuses each other part, with the same fault. `Memory` comes if there is no memory for a part or a paragraph, the office
     /// is then as it was, but may be closed. `Store` comes if the store failed: the office is closed, and a crash leaves
     /// the state before the merge or the one after it, whole. A closed office, and no other, answers `Closed`
     /// (this project's own).

@@ -1,5 +1,5 @@
 //! What a merge asks of a reader of paragraphs.
-ghost use Rattle.std.specs.Prelude.{◌≡◌, ◌≢◌, ◌⊎◌, ℕ, ◌+◌, ◌<◌, IsTrue, IfOk, IfErr, IfSome, Ok, Err, length, option_map, refl};
+ghost use Rattle.std.specs.Prelude.{◌≡◌, ◌≢◌, ◌⊎◌, ℕ, ◌+◌, ◌<◌, IsTrue, IfOk, IfErr, IfSome, OnOk, Ok, Err, length, option_map, refl};
 ghost use Rattle.std.proofs.Common.{sym};
 ghost use Rattle.deb_control.specs.declared.fault.ControlFault.{ControlFault};
 ghost use Rattle.deb_control.specs.declared.fault.ControlFaultKind.TheVariants.{Memory};
@@ -25,7 +25,7 @@ pub trait ReadParagraphs: Drop {
     // How many paragraphs the reader went through.
     ghost passed: { Self → ℕ };
 
-    // The reader broke with this fault, which is none of a paragraph: its bytes could not be read.
+    // The reader broke with this fault when it was read on, which is none of a paragraph: its bytes could not be read.
     ghost breaks: { Self → ControlFault → Type 0 };
 
     // The next call may take memory.
@@ -37,8 +37,9 @@ pub trait ReadParagraphs: Drop {
         ensures ok { IfOk result (λ found.
             AnswersFrom may_stand_at self.old self.new (Ok (option_map Self.Found.fields found))) }
         ensures refused { IfErr result (λ fault. fault.kind ≢ Memory
-            → (breaks self.new fault × (fault.paragraph ≡ passed self.old + 1))
+            → (breaks self.old fault × (fault.paragraph ≡ passed self.old + 1))
             ⊎ MayStandWhere may_stand_at self.old (λ place. (step place).0 ≡ Err fault)) }
+        ensures earlier { OnOk result ((fault : ControlFault) → breaks self.new fault → breaks self.old fault) }
         ensures memory { IfErr result (λ fault. fault.kind ≡ Memory → may_want_memory self.old) };
 
     // A reader may stand somewhere.

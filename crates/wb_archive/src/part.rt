@@ -112,7 +112,7 @@ pub fn merge_part<T: MergeTables, R: ReadParagraphs>(
         → T.is_clean tables.new → T.holds tables.old at → R.passed packages.old ≡ 0
         → at.saved ≡ None → at.now.binaries ≡ [] → at.now.sources ≡ sources_wanted archs rows → IsIn arch.now archs
         → IfOk result (λ end. MayStandWhere R.may_stand_at packages.old (λ place.
-        IsPartDone (IsListing R.breaks packages.new arch.now rows place)
+        IsPartDone (IsListing (R.breaks packages.old) arch.now rows place)
         (λ records. T.holds tables.new (with_records records at)) at.now.machine.records arch.now.name end)) }
     ensures kind { IfOk result IsPartEnd }
     ensures follows { OnOk result (T.follows tables.old tables.new) }

@@ -1,5 +1,6 @@
 //! What a merge keeps of the paragraphs of the archive's lists, one after another.
-ghost use Rattle.std.specs.Prelude.{◌≡◌, ◌≢◌, ◌+◌, ◌-◌, ◌^◌, ◌<◌, [], None, Ok, Err, IfOk, IfErr, IfSome};
+ghost use Rattle.std.specs.Prelude.{◌≡◌, ◌≢◌, ◌+◌, ◌-◌, ◌^◌, ◌<◌, [], None, Ok, Err, IfOk, IfErr, IfSome, OnOk};
+ghost use Rattle.deb_control.specs.declared.fault.ControlFault.{ControlFault as AnyFault};
 ghost use Rattle.deb_control.specs.declared.fault.ControlFaultKind.TheVariants.{Memory as NoMemory};
 ghost use Rattle.wb_states.specs.declared.refusal.ListKind.TheVariants.{Sources, Packages};
 ghost use Rattle.wb_merge.specs.Scratch.{binary_row_at, source_row_at};
@@ -41,10 +42,11 @@ pub(crate) fn next_source<R: ReadParagraphs>(
         GivesRow R.may_stand_at source_row_at list.old row list.new)) }
     ensures counts { IfOk result (λ found. IfSome found (λ row. R.passed list.new ≡ R.passed list.old + 1)) }
     ensures number { IfOk result (λ found. IfSome found (λ row. row.seq ≡ passed + 1)) }
+    ensures earlier { OnOk result ((fault : AnyFault) → R.breaks list.new fault → R.breaks list.old fault) }
     ensures ended { IfOk result (λ found. found ≡ None
         → MayStandWhere R.may_stand_at list.old (λ place. sources_at place ≡ Ok [])) }
     ensures refused { passed ≡ R.passed list.old → IfErr result (λ fault. IfBad fault (λ bad.
-        MayStandWhere R.may_stand_at list.old (λ place. IsRefused R.breaks list.new Sources source_row_at place bad))) }
+        MayStandWhere R.may_stand_at list.old (λ place. IsRefused (R.breaks list.old) Sources source_row_at place bad))) }
 {
     match list.next(alloc) {
         Ok(None) => Ok(None),
@@ -68,11 +70,12 @@ pub(crate) fn next_binary<R: ReadParagraphs>(
         GivesRow R.may_stand_at (binary_row_at arch.now) list.old row list.new)) }
     ensures counts { IfOk result (λ found. IfSome found (λ row. R.passed list.new ≡ R.passed list.old + 1)) }
     ensures number { IfOk result (λ found. IfSome found (λ row. IfSome row (λ row. row.seq ≡ passed + 1))) }
+    ensures earlier { OnOk result ((fault : AnyFault) → R.breaks list.new fault → R.breaks list.old fault) }
     ensures ended { IfOk result (λ found. found ≡ None
         → MayStandWhere R.may_stand_at list.old (λ place. packages_at arch.now place ≡ Ok [])) }
     ensures refused { passed ≡ R.passed list.old → IfErr result (λ fault. IfBad fault (λ bad.
         MayStandWhere R.may_stand_at list.old
-        (λ place. IsRefused R.breaks list.new Packages (binary_row_at arch.now) place bad))) }
+        (λ place. IsRefused (R.breaks list.old) Packages (binary_row_at arch.now) place bad))) }
 {
     match list.next(alloc) {
         Ok(None) => Ok(None),

@@ -4,12 +4,12 @@ use Rattle.std.proofs.lemmas.List.{drop_all}
 use Rattle.std.specs.FinMap as finite
 use Rattle.wb_states.specs.declared.reply.MergeCounts.{MergeCounts}
 use Rattle.wb_merge.specs.Listing.{ArchiveListing}
-use Rattle.wb_merge.specs.Merged.{Records, record_after_at, merged, names_of, is_added, is_changed, is_kept, is_removed, change_of, number_where, counts_over, merge_counts, all_kept, record_after_named}
+use Rattle.wb_merge.specs.Merged.{Records, record_after_at, merged, is_added, is_changed, is_kept, is_removed, change_of, number_where, counts_over, merge_counts, record_after_named}
 use Rattle.wb_merge.specs.declared.merge.Change.{Change}
 use Rattle.wb_merge.specs.declared.merge.Change.TheVariants.{Absent, Added, Changed, Kept, Removed}
 use Rattle.wb_merge.specs.Steps.{Key, record_at, IsSetAt, AreWithin, counted}
 use Rattle.wb_merge.proofs.NameLemmas.{IsApart}
-use Rattle.wb_merge.proofs.MergeLemmas.{half_merged, names-apart, half-start, half-here, named-here, half-next, half-end}
+use Rattle.wb_merge.proofs.MergeLemmas.{half_merged, half-here, named-here, half-next, half-end}
 
 -- ---- counts
 
@@ -93,14 +93,6 @@ none-plus n = omega arith
 plus-none : (n : ℕ) → n + 0 ≡ n
 plus-none n = omega arith
 
-plus-all_kept : (counts : MergeCounts) → plus (all_kept 0) counts ≡ counts
-plus-all_kept counts = λ i. record {
-  added = none-plus counts.added i;
-  changed = none-plus counts.changed i;
-  kept = none-plus counts.kept i;
-  removed = none-plus counts.removed i;
-}
-
 counts-end : (counts : MergeCounts) (old : Records) (arch : List ℕ) (listing : ArchiveListing) → plus counts (counts_over old arch listing []) ≡ counts
 unfolding counts_over
 counts-end counts old arch listing = λ i. record {
@@ -125,14 +117,6 @@ pub record IsHalfMerged (old records : Records) (arch : List ℕ) (listing : Arc
   pub apart : IsApart bytes_eq left
   pub half : (key : Key) → finite.get records key ≡ half_merged old arch listing left key
   pub so_far : plus counts (counts_over old arch listing left) ≡ merge_counts old arch listing
-
-pub half_merged-start : (old : Records) (arch : List ℕ) (listing : ArchiveListing) → IsHalfMerged old old arch listing (all_kept 0) (names_of old arch listing)
-unfolding merge_counts
-half_merged-start old arch listing = record {
-  apart = names-apart old arch listing;
-  half = half-start old arch listing;
-  so_far = plus-all_kept (counts_over old arch listing (names_of old arch listing));
-}
 
 pub half_merged-next : (old records new : Records) (arch : List ℕ) (listing : ArchiveListing) (counts : MergeCounts) (name : List ℕ) (left : List (List ℕ))
     → IsHalfMerged old records arch listing counts (name ∷ left)

@@ -27,7 +27,6 @@ pub mod RowLemmas
 pub mod ScratchLemmas
 pub mod SourceLemmas
 pub mod SourceTextLemmas
-pub mod SourcesLemmas
 pub mod TotalLemmas
 pub mod TwiceLemmas
 pub mod WholeLemmas

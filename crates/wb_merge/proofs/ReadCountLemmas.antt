@@ -1,10 +1,11 @@
 -- A text has no more paragraphs than bytes, and a reader begins with all of them.
-use Rattle.std.proofs.Common.{◌≡◌, ℕ, ◌+◌, ◌≤◌, Bool, true, false, cond, List, [], ◌∷◌, ◌<◌, ◌^◌, length, filter, refl, sym, ap, subst, ◌∙◌, arith}
+use Rattle.std.proofs.Common.{◌≡◌, ℕ, ◌+◌, ◌≤◌, Bool, true, false, cond, List, [], ◌∷◌, ◌<◌, ◌^◌, length, filter, IsTrue, refl, sym, ap, subst, ◌∙◌, arith}
 use Rattle.std.specs.List.{slice_split, onto_first}
 use Rattle.deb_control.specs.Paragraphs.{ReaderState, begun}
 use Rattle.wb_states.specs.declared.refusal.ListKind.TheVariants.{Sources, Packages}
 use Rattle.wb_merge.specs.Rows.{SourceRow, BinaryRow, source_paragraph, binary_paragraph, source_rows, binary_rows}
 use Rattle.wb_merge.specs.Offers.{HasPassed, after_rows, rows_at}
+use Rattle.wb_merge.specs.Growth.{ahead_takes_memory, list_takes_memory}
 use Rattle.deb_control.specs.Lines.{is_line_feed, is_separator, is_nonempty, lines_of, paragraphs_in}
 
 -- one line more makes one run more at most
@@ -35,6 +36,12 @@ paragraphs-le text = omega (arith, runs-le is_separator (lines_of text), lines-l
 -- a reader that stands before the first paragraph of a text
 pub begins : (text : List ℕ) (place : ReaderState) → place ≡ begun (paragraphs_in (lines_of text)) → length text < 2 ^ 64 → HasPassed place 0
 begins text place is fits = subst (λ p. HasPassed p 0) (sym is) (record { count = refl; goes_on = refl; fits = omega (arith, paragraphs-le text) })
+
+-- a reader that stands before the first paragraph takes memory where the list does
+pub first-takes : (text : List ℕ) (place : ReaderState) → place ≡ begun (paragraphs_in (lines_of text)) → IsTrue (ahead_takes_memory place.ahead)
+    → IsTrue (list_takes_memory text)
+unfolding list_takes_memory
+first-takes text place is takes = ap (λ p. ahead_takes_memory p.ahead) (sym is) ∙ takes
 
 module _ {S : Type 0} where
   pub all-sources : (add : S → SourceRow → S) (start first : S) (text : List ℕ) (place : ReaderState) → place ≡ begun (paragraphs_in (lines_of text)) → start ≡ first

@@ -1,5 +1,5 @@
 -- The listing that rows give which are offered one after another.
-use Rattle.std.proofs.Common.{◌≡◌, ℕ, Bool, true, false, cond, None, bytes_eq, List, [], ◌∷◌, map, filter, Result, Ok, Err, refl, sym, ap, ◌∙◌}
+use Rattle.std.proofs.Common.{◌≡◌, ℕ, Bool, true, false, cond, None, bytes_eq, List, [], ◌∷◌, map, filter, Result, Ok, Err, refl, sym, ◌∙◌}
 use Rattle.std.specs.List.{fold}
 use Rattle.std.specs.FinMap as finite
 use Rattle.deb_relations.specs.declared.arch.ArchWords.{ArchWords}
@@ -72,24 +72,30 @@ lists-are arch (Ok sources) (Ok packages) listed built available s p =
     let two = sym (found-is arch packages) ∙ ok-same _ (built, available) (after_rows (with_binary arch) (finite.empty, no_pairs) (Ok packages)) refl p in
     λ i. Ok (record { listed = one i; built = (two i).0; available = (two i).1 })
 
--- the listing of rows that were read, and of Packages
-pub listing-is : (arch : ArchWords) (sources : Result (List SourceRow) Refusal) (rows : List SourceRow) (packages : Result (List BinaryRow) Refusal)
-    (listed : finite.FinMap text_cmp Listed) (built : finite.FinMap text_cmp Built) (available : Pairs)
-    → sources ≡ Ok rows → listed ≡ fold (with_listed arch) finite.empty rows
-    → after_rows (with_binary arch) (finite.empty, no_pairs) packages ≡ Ok (built, available)
-    → listing_in arch sources packages ≡ Ok (record { listed = listed; built = built; available = available })
-listing-is arch sources rows packages listed built available s l p =
-    lists-are arch sources packages listed built available (ap (after_rows (with_listed arch) finite.empty) s ∙ ap Ok (sym l)) p
+-- the listing of two lists, of which each row was offered
+pub listing-is : (arch : ArchWords) (sources packages : List ℕ) (listed : finite.FinMap text_cmp Listed) (built : finite.FinMap text_cmp Built) (available : Pairs)
+    → after_rows (with_listed arch) finite.empty (source_rows sources) ≡ Ok listed
+    → after_rows (with_binary arch) (finite.empty, no_pairs) (binary_rows packages) ≡ Ok (built, available)
+    → listing_of sources packages arch ≡ Ok (record { listed = listed; built = built; available = available })
+unfolding listing_of
+listing-is arch sources packages listed built available s p = lists-are arch (source_rows sources) (binary_rows packages) listed built available s p
 
 -- the refusal of Sources, and then that of Packages
-pub sources-refused : (arch : ArchWords) (sources packages : List ℕ) (refusal : Refusal) → source_rows sources ≡ Err refusal → listing_of sources packages arch ≡ Err refusal
+pub sources-refused : (arch : ArchWords) (sources packages : List ℕ) (refusal : Refusal) → source_rows sources ≡ Err refusal
+    → listing_of sources packages arch ≡ Err refusal
 unfolding listing_of
 sources-refused arch sources packages refusal s = rw s refl
 
-pub packages-refused : (arch : ArchWords) (sources packages : List ℕ) (rows : List SourceRow) (refusal : Refusal)
-    → source_rows sources ≡ Ok rows → binary_rows packages ≡ Err refusal → listing_of sources packages arch ≡ Err refusal
+packages-are : (arch : ArchWords) (sources : Result (List SourceRow) Refusal) (listed : finite.FinMap text_cmp Listed) (refusal : Refusal)
+    → after_rows (with_listed arch) finite.empty sources ≡ Ok listed → listing_in arch sources (Err refusal) ≡ Err refusal
+packages-are arch (Err other) listed refusal s = absurd (not-ok other listed s)
+packages-are arch (Ok rows) listed refusal s = refl
+
+pub packages-refused : (arch : ArchWords) (sources packages : List ℕ) (listed : finite.FinMap text_cmp Listed) (refusal : Refusal)
+    → after_rows (with_listed arch) finite.empty (source_rows sources) ≡ Ok listed → binary_rows packages ≡ Err refusal
+    → listing_of sources packages arch ≡ Err refusal
 unfolding listing_of
-packages-refused arch sources packages rows refusal s p = rw (s, p) refl
+packages-refused arch sources packages listed refusal s p = rw p (packages-are arch (source_rows sources) listed refusal s)
 
 -- ---- what a listing has at a name
 

@@ -1,12 +1,8 @@
 -- For which lists memory is taken, and so which of them may run out of it.
-use Rattle.std.specs.Prelude.{ℕ, Bool, false, ◌&&◌, ◌||◌, List, [], ◌∷◌, Option, Some, None, Result, Ok, Err, is_ok}
-use Rattle.std.specs.List.{list_any}
+use Rattle.std.specs.Prelude.{ℕ, Bool, false, ◌&&◌, ◌||◌, List, [], ◌∷◌, Option, Some, None, is_ok}
 use Rattle.deb_control.specs.Fields.{reading_of, takes_memory}
 use Rattle.deb_control.specs.Lines.{lines_of, paragraphs_in}
-use Rattle.deb_relations.specs.declared.arch.ArchWords.{ArchWords}
-use Rattle.wb_states.specs.declared.refusal.Refusal.{Refusal}
-use Rattle.wb_merge.specs.Rows.{SourceRow, source_rows}
-use Rattle.wb_merge.specs.Listing.{is_listed}
+use Rattle.wb_merge.specs.Rows.{source_rows}
 
 -- whether memory is taken for the next of the paragraphs ahead: it can be read, or its fault is not seen without memory
 abbrev pub ahead_takes_memory : Option (List (List (List ℕ))) → Bool
@@ -17,11 +13,6 @@ ahead_takes_memory (Some (lines ∷ later)) = takes_memory lines || is_ok (readi
 -- whether memory is taken for a list: it has a paragraph, and memory is taken for the first
 unfoldable pub list_takes_memory : List ℕ → Bool
 list_takes_memory text = ahead_takes_memory (Some (paragraphs_in (lines_of text)))
-
--- whether memory is taken for the listing of these rows of Sources and of a Packages list: a row is listed, or Packages takes it
-abbrev pub listing_takes_memory : ArchWords → Result (List SourceRow) Refusal → List ℕ → Bool
-listing_takes_memory arch (Err refusal) packages = false
-listing_takes_memory arch (Ok rows) packages = list_any (is_listed arch) rows || list_takes_memory packages
 
 -- whether memory is taken for the listing of two lists: Sources takes it, or has no fault and Packages takes it
 abbrev pub lists_take_memory : List ℕ → List ℕ → Bool

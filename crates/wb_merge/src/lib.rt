@@ -16,7 +16,6 @@ mod report_moves;
 mod rows;
 mod scratch;
 mod source;
-mod sources;
 
 pub use found::{after_found, is_listed_for};
 pub use listing::{Built, Listed, Listing};
@@ -25,4 +24,3 @@ pub use record::{after, blank_record};
 pub use report::{ReportFault, ReportLine, ReportLines};
 pub use report_moves::{after_report, changed_by_report};
 pub use scratch::{binary_row, source_row};
-pub use sources::Sources;

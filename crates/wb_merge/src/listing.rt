@@ -1,25 +1,22 @@
 //! What the archive lists for an architecture.
-ghost use Rattle.std.specs.Prelude.{◌≡◌, ◌≢◌, true, Ok, Err, IfOk, IfErr, OnErr, IsTrue};
-ghost use Rattle.std.specs.List.{fold, list_any};
+ghost use Rattle.std.specs.Prelude.{◌≡◌, ◌≢◌, Ok, Err, IfOk, IfErr, IsTrue};
 ghost use Rattle.std.specs.Option.{option_copied};
 ghost use Rattle.std.specs.FinMap as map;
 ghost use Rattle.wb_states.specs.declared.refusal.Refusal.TheVariants.{Memory};
 ghost use Rattle.deb_text.specs.Text.{text_cmp};
 ghost use Rattle.deb_relations.specs.Satisfaction.{no_pairs};
 ghost use Rattle.wb_merge.specs.Rows.{binary_rows, source_rows};
-ghost use Rattle.wb_merge.specs.Listing.{is_listed, listing_of};
+ghost use Rattle.wb_merge.specs.Listing.{listing_of};
 ghost use Rattle.wb_merge.specs.Offers.{after_rows, with_listed, with_binary};
-ghost use Rattle.wb_merge.specs.Growth.{list_takes_memory, listing_takes_memory, lists_take_memory};
+ghost use Rattle.wb_merge.specs.Growth.{list_takes_memory, lists_take_memory};
 
-use crate::Sources;
 use crate::offers::{offer_build, offer_package, offer_source};
-use crate::reader::next_binary;
-use crate::rows::SourceRow;
+use crate::reader::{next_binary, next_source};
 use deb_control::Paragraphs;
 use deb_relations::{ArchWords, Available};
 use deb_text::Text;
 use deb_version::Version;
-use std::alloc::{AllocError, Global};
+use std::alloc::Global;
 use std::collections::BTreeMap;
 use std::marker::Model;
 use wb_states::Refusal;
@@ -53,7 +50,6 @@ pub struct Built {
 /// packages can be installed.
 #[derive(Drop)]
 pub struct Listing {
-    pub(crate) alloc: Global,
     pub(crate) listed: BTreeMap<Text, Listed>,
     pub(crate) built: BTreeMap<Text, Built>,
     pub(crate) available: Available,
@@ -75,19 +71,25 @@ impl Model for Listing {
     } };
 }
 
-/// What rows of Sources list for the architecture. Takes no memory if no row is listed.
-fn list_sources(
+/// What a Sources list says is listed for the architecture.
+fn read_sources(
     alloc: Global,
-    rows: &[SourceRow],
+    sources: &[u8],
     arch: &ArchWords,
 ) -> Result<BTreeMap<Text, Listed>, Refusal>
-    ensures value { IfOk result (λ listed. map.from_entries {R = text_cmp} listed.entries
-        ≡ fold (with_listed arch.now) map.empty rows.now) }
-    ensures refused { IfErr result (λ refusal. refusal ≡ Memory) }
-    ensures memory { OnErr result (list_any (is_listed arch.now) rows.now ≡ true) }
+    ensures value { IfOk result (λ listed.
+        after_rows (with_listed arch.now) map.empty (source_rows sources.now)
+        ≡ Ok (map.from_entries {R = text_cmp} listed.entries)) }
+    ensures refused { IfErr result (λ refusal. refusal ≢ Memory
+        → source_rows sources.now ≡ Err refusal) }
+    ensures memory { IfErr result (λ refusal. refusal ≡ Memory
+        → IsTrue (list_takes_memory sources.now)) }
 {
     let mut listed = BTreeMap::new(alloc);
-    for row in rows {
+    let mut paragraphs = Paragraphs::of(sources);
+    let mut passed = 0;
+    while let Some(row) = next_source(alloc, &mut paragraphs, passed)? {
+        passed += 1;
         offer_source(alloc, &mut listed, arch, row)?;
     }
     Ok(listed)
@@ -141,30 +143,9 @@ impl Listing {
         ensures memory { IfErr result (λ refusal. refusal ≡ Memory
             → IsTrue (lists_take_memory sources.now packages.now)) }
     {
-        let sources = Sources::read(alloc, sources)?;
-        Listing::from_sources(alloc, &sources, packages, arch)
-    }
-
-    /// The listing of a Sources list that was read before and of the Packages list of the architecture,
-    /// uncompressed, as [`Listing::read`] has it. `Memory` comes neither for a fault of Sources nor if
-    /// nothing is listed and Packages has no paragraph that begins with a field (this project's own).
-    pub fn from_sources(
-        alloc: Global,
-        sources: &Sources<'_>,
-        packages: &[u8],
-        arch: &ArchWords,
-    ) -> Result<Listing, Refusal>
-        ensures value { IfOk result (λ listing.
-            listing_of sources.now packages.now arch.now ≡ Ok listing) }
-        ensures refused { IfErr result (λ refusal. refusal ≢ Memory
-            → listing_of sources.now packages.now arch.now ≡ Err refusal) }
-        ensures memory { IfErr result (λ refusal. refusal ≡ Memory
-            → IsTrue (listing_takes_memory arch.now (source_rows sources.now) packages.now)) }
-    {
-        let listed = list_sources(alloc, sources.rows()?, arch)?;
+        let listed = read_sources(alloc, sources, arch)?;
         let (built, available) = read_packages(alloc, packages, arch)?;
         Ok(Listing {
-            alloc,
             listed,
             built,
             available,
@@ -183,18 +164,6 @@ impl Listing {
         ensures value { option_copied result ≡ map.get self.now.built name.now }
     {
         self.built.get(name)
-    }
-
-    /// The names of the source packages that are listed, in their order. The only error is that there is no
-    /// memory for them (this project's own).
-    pub fn names(&self) -> Result<Vec<Text>, AllocError>
-        ensures value { IfOk result (λ names. names.items ≡ map.keys self.now.listed) }
-    {
-        let mut names = Vec::new(self.alloc);
-        for name in self.listed.keys() {
-            names.push(name.clone()?)?;
-        }
-        Ok(names)
     }
 
     /// The packages that can be installed on the architecture. Takes no memory.

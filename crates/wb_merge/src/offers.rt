@@ -1,10 +1,10 @@
 //! What a row of the archive's lists adds to a listing.
-ghost use Rattle.std.specs.Prelude.{◌≡◌, true, IfOk, IfErr, OnOk, OnErr};
+ghost use Rattle.std.specs.Prelude.{◌≡◌, IfOk, IfErr, OnOk};
 ghost use Rattle.std.specs.FinMap as map;
 ghost use Rattle.deb_relations.specs.declared.arch.ArchWords.{ArchWords as Arch};
 ghost use Rattle.deb_text.specs.Text.{text_cmp};
 ghost use Rattle.wb_states.specs.declared.refusal.Refusal.TheVariants.{Memory};
-ghost use Rattle.wb_merge.specs.Listing.{is_listed, printed_for, joined, both_joined, depends_of, listed_as, listed_with, listed_cmp, built_as, built_cmp, is_better};
+ghost use Rattle.wb_merge.specs.Listing.{printed_for, joined, both_joined, depends_of, listed_as, listed_with, listed_cmp, built_as, built_cmp, is_better};
 ghost use Rattle.wb_merge.specs.Offers.{with_listed, with_build, with_package};
 
 use crate::rows::{BinaryRow, SourceRow};
@@ -81,18 +81,16 @@ fn depends_of(alloc: Global, row: &SourceRow, arch: &ArchWords) -> Result<Option
     both_joined(alloc, &row.depends, &row.depends_arch, arch)
 }
 
-/// What the row lists, with what its source package needs to be built. The row is kept for other
-/// architectures, so its texts are copied.
-fn listed_with(depends: Option<Text>, row: &SourceRow) -> Result<Listed, Refusal>
-    ensures value { IfOk result (λ listed. listed ≡ listed_with depends row.now) }
-    ensures refused { IfErr result (λ refusal. refusal ≡ Memory) }
+/// What the row lists, with what its source package needs to be built.
+fn listed_with(depends: Option<Text>, row: SourceRow) -> Listed
+    ensures value { result ≡ listed_with depends row }
 {
-    Ok(Listed {
-        version: row.version.clone()?,
-        priority: row.priority.clone()?,
-        section: row.section.clone()?,
+    Listed {
+        version: row.version,
+        priority: row.priority,
+        section: row.section,
         depends,
-    })
+    }
 }
 
 /// Whether the row is of a later version than what is listed of its source package so far.
@@ -109,27 +107,26 @@ fn is_later_source(listed: &BTreeMap<Text, Listed>, row: &SourceRow) -> bool
 }
 
 /// Offers a row of Sources to what is listed: of the versions of a source package the greatest is kept,
-/// and of equal ones the first. A row that is not listed takes no memory.
+/// and of equal ones the first.
 pub(crate) fn offer_source(
     alloc: Global,
     listed: &mut BTreeMap<Text, Listed>,
     arch: &ArchWords,
-    row: &SourceRow,
+    row: SourceRow,
 ) -> Result<(), Refusal>
     ensures value { OnOk result (map.from_entries {R = text_cmp} listed.new.entries
-        ≡ with_listed arch.now (map.from_entries {R = text_cmp} listed.old.entries) row.now) }
+        ≡ with_listed arch.now (map.from_entries {R = text_cmp} listed.old.entries) row) }
     ensures refused { IfErr result (λ refusal. refusal ≡ Memory) }
-    ensures memory { OnErr result (is_listed arch.now row.now ≡ true) }
 {
     if !row.is_listed(arch) {
         return Ok(());
     }
-    if !is_later_source(listed, row) {
+    if !is_later_source(listed, &row) {
         return Ok(());
     }
-    let depends = depends_of(alloc, row, arch)?;
-    let found = listed_with(depends, row)?;
-    listed.insert(row.name.clone()?, found)?;
+    let depends = depends_of(alloc, &row, arch)?;
+    let name = row.name.clone()?;
+    listed.insert(name, listed_with(depends, row))?;
     Ok(())
 }
 

@@ -1,5 +1,5 @@
 //! The rows of the archive's lists, one after another.
-ghost use Rattle.std.specs.Prelude.{◌≡◌, ◌≢◌, [], None, Ok, Err, IfOk, IfErr, IfSome, IsTrue, true, false};
+ghost use Rattle.std.specs.Prelude.{◌≡◌, ◌≢◌, [], None, Ok, Err, IfOk, IfErr, IfSome, IsTrue};
 ghost use Rattle.deb_control.specs.declared.fault.ControlFaultKind.TheVariants.{Memory as NoMemory};
 ghost use Rattle.wb_states.specs.declared.refusal.Refusal.TheVariants.{BadListing, Memory};
 ghost use Rattle.wb_states.specs.declared.refusal.ListKind.TheVariants.{Sources, Packages};
@@ -19,19 +19,6 @@ use wb_states::{ListKind, ListingFault, Refusal};
 pub(crate) struct ListFault {
     pub(crate) paragraph: u64,
     pub(crate) fault: ListingFault,
-}
-
-/// Whether the list ran out of memory.
-pub(crate) fn is_memory(bad: ListFault) -> bool
-    ensures yes { result ≡ true → bad.fault ≡ Control NoMemory }
-    ensures no { result ≡ false → bad.fault ≢ Control NoMemory }
-{
-    matches!(
-        bad.fault,
-        ListingFault::Control {
-            kind: ControlFaultKind::Memory,
-        }
-    )
 }
 
 /// The refusal of a list for its first fault, or for being out of memory.
@@ -57,35 +44,35 @@ pub(crate) fn next_source(
     alloc: Global,
     paragraphs: &mut Paragraphs<'_>,
     passed: u64,
-) -> Result<Option<SourceRow>, ListFault>
+) -> Result<Option<SourceRow>, Refusal>
     requires { HasPassed paragraphs.old passed }
     ensures value { IfOk result (λ found. IfSome found (λ row.
         GivesRow source_paragraph Sources paragraphs.old row paragraphs.new)) }
     ensures ended { IfOk result (λ found. found ≡ None
         → rows_at source_paragraph Sources paragraphs.old ≡ Ok []) }
-    ensures refused { IfErr result (λ bad. bad.fault ≢ Control NoMemory
-        → rows_at source_paragraph Sources paragraphs.old
-        ≡ Err (BadListing Sources bad.paragraph bad.fault)) }
+    ensures refused { IfErr result (λ refusal. refusal ≢ Memory
+        → rows_at source_paragraph Sources paragraphs.old ≡ Err refusal) }
     // what the paragraph takes memory for
     ensures grown { IfOk result (λ found. IfSome found (λ row.
         IsTrue (ahead_takes_memory paragraphs.old.ahead))) }
-    ensures memory { IfErr result (λ bad. bad.fault ≡ Control NoMemory
+    ensures memory { IfErr result (λ refusal. refusal ≡ Memory
         → IsTrue (ahead_takes_memory paragraphs.old.ahead)) }
 {
-    match paragraphs.next(alloc) {
-        Ok(None) => Ok(None),
+    let bad = match paragraphs.next(alloc) {
+        Ok(None) => return Ok(None),
         Ok(Some(paragraph)) => match SourceRow::read(alloc, &paragraph) {
-            Ok(row) => Ok(Some(row)),
-            Err(fault) => Err(ListFault {
+            Ok(row) => return Ok(Some(row)),
+            Err(fault) => ListFault {
                 paragraph: passed + 1,
                 fault,
-            }),
+            },
         },
-        Err(fault) => Err(ListFault {
+        Err(fault) => ListFault {
             paragraph: fault.paragraph,
             fault: ListingFault::Control { kind: fault.kind },
-        }),
-    }
+        },
+    };
+    Err(refuse(ListKind::Sources, bad))
 }
 
 /// The row of the next paragraph of a Packages list, after so many paragraphs.

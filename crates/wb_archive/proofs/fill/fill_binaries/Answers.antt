@@ -21,12 +21,13 @@ returns-in-Err-Bad-clause-value g c = λ at clean holds first empty.
     let half = (c.loop-passed.invariant.half at clean holds first empty).0 in
     let counted = g.R.ReadParagraphs.passed c.loop-passed.list in
     rw c.in-Err-Bad.field-0-is (half-refused g.R.ReadParagraphs.may_stand_at (binary_row_at c.args.arch.now) (binaries_wanted (contains text_cmp c.args.waited.now)) (λ (row : BinaryRow). row.seq) Packages
-    g.R.ReadParagraphs.breaks c.args.list.now c.loop-passed.list c.next_binary.new.list counted c.loop-passed.passed c.in-Err-Bad.bad half
+    g.R.ReadParagraphs.breaks c.args.list.now c.loop-passed.list counted c.loop-passed.passed c.in-Err-Bad.bad c.loop-passed.invariant.earlier half
     (rw c.in-Err-Bad.field-0-is at (c.in-Err-Bad.ensures.refused half.count)))
 
 pub loop-passed-init : goal.loop-passed-init
 loop-passed-init g c = record {
   follows = g.met.T.MergeTables.follows_itself c.args.tables.now;
+  earlier = λ fault broke. broke;
   half = λ at clean holds first empty. (
     half-start g.R.ReadParagraphs.may_stand_at (binary_row_at c.args.arch.now) (binaries_wanted (contains text_cmp c.args.waited.now)) (λ (row : BinaryRow). row.seq)
         (λ rows. g.T.MergeTables.holds c.args.tables.now (with_binaries rows at)) c.args.list.now (g.R.ReadParagraphs.passed c.args.list.now) first refl
@@ -44,6 +45,7 @@ loop-passed-preserved g c =
     let waited = contains text_cmp c.args.waited.now in
     record {
       follows = laws.follows_on c.args.tables.now c.loop-passed.tables c.keep_binary.new.tables c.loop-passed.invariant.follows kept.follows;
+      earlier = λ fault broke. c.loop-passed.invariant.earlier fault (c.in-Ok-Some.ensures.earlier fault broke);
       half = λ at clean holds first empty.
           let both = c.loop-passed.invariant.half at (laws.clean c.loop-passed.tables c.keep_binary.new.tables kept.follows clean) holds first empty in
           let half = both.0 in

@@ -1,4 +1,5 @@
 use Rattle.std.proofs.Common.{◌≡◌, []}
+use Rattle.deb_control.specs.declared.fault.ControlFault.{ControlFault}
 use Rattle.wb_states.specs.declared.scratch.SourceRow.{SourceRow}
 use Rattle.wb_merge.specs.Scratch.{source_row_at}
 use Rattle.wb_archive.specs.Fills.{sources_wanted}
@@ -9,6 +10,7 @@ use Rattle.wb_archive.proofs.fill.fill_sources.Given as goal
 abbrev pub invariant-loop-passed : goal.invariant-loop-passed
 invariant-loop-passed g l = record {
   follows : g.T.MergeTables.follows l.fn.tables l.tables;
+  earlier : (fault : ControlFault) → g.R.ReadParagraphs.breaks l.list fault → g.R.ReadParagraphs.breaks l.fn.list fault;
   half : (at : Tables) → g.T.MergeTables.is_clean l.tables → g.T.MergeTables.holds l.fn.tables at
       → g.R.ReadParagraphs.passed l.fn.list ≡ 0 → at.now.sources ≡ []
       → IsHalfFilled g.R.ReadParagraphs.may_stand_at source_row_at (sources_wanted l.archs) (λ (row : SourceRow). row.seq)

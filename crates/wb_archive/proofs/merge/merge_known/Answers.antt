@@ -23,7 +23,8 @@ returns-in_default-clause-value g c = λ at machine text archs clean holds unsav
     record {
       of = of;
       is = record { arch = refl; words = unread.words; begins = list.1.1 };
-      done = part-unknown g.R.ReadParagraphs.breaks (λ (records : Records). g.T.MergeTables.holds c.args.tables.now (with_records records at)) machine text of at.now.machine.records
+      done = part-unknown (λ _. g.R.ReadParagraphs.breaks c.args.packages.now) (λ (records : Records). g.T.MergeTables.holds c.args.tables.now (with_records records at)) machine text
+          c.args.bad of at.now.machine.records
           (sym unread.words ∙ c.in_default.is) holds;
     }
 
@@ -36,8 +37,9 @@ returns-in-Some-bad-clause-value g c = λ at machine text archs clean holds unsa
     record {
       of = of;
       is = record { arch = refl; words = unread.words; begins = list.1.1 };
-      done = part-without-sources g.R.ReadParagraphs.breaks (λ (records : Records). g.T.MergeTables.holds c.args.tables.now (with_records records at)) machine text archs at.now.sources of
-          c.in-Some.words at.now.machine.records c.in-Some-bad.bad c.refused.result (sym unread.words ∙ c.in-Some.is) (rw c.in-Some-bad.is at has) c.refused.ensures.value holds;
+      done = part-without-sources (λ _. g.R.ReadParagraphs.breaks c.args.packages.now)
+          (λ (records : Records). g.T.MergeTables.holds c.args.tables.now (with_records records at)) machine text of
+          c.in-Some.words at.now.machine.records c.args.bad c.in-Some-bad.bad c.refused.result c.in-Some-bad.is (sym unread.words ∙ c.in-Some.is) c.refused.ensures.value holds;
     }
 
 pub returns-clause-value : goal.returns-clause-value
@@ -54,11 +56,12 @@ returns-clause-value g c = λ at machine text archs clean holds unsaved empty un
     record {
       of = of;
       is = record { arch = refl; words = unread.words; begins = list.1.1 };
-      done = part-with-sources g.R.ReadParagraphs.breaks c.merge_part.new.packages (λ (records : Records). g.T.MergeTables.holds c.merge_part.new.tables (with_records records at))
-          machine text of c.in-Some.words at.now.machine.records read.0 end (sym unread.words ∙ c.in-Some.is) read.1.0
-          (subst (λ (a : ArchWords). IsPartDone (IsListing g.R.ReadParagraphs.breaks c.merge_part.new.packages a read.0 (begun (paragraphs_in (lines_of list.0))))
+      done = part-with-sources (λ _. g.R.ReadParagraphs.breaks c.args.packages.now)
+          (λ (records : Records). g.T.MergeTables.holds c.merge_part.new.tables (with_records records at))
+          machine text of c.in-Some.words at.now.machine.records c.args.bad read.0 end c.in_default-bad.is (sym unread.words ∙ c.in-Some.is) read.1.0
+          (subst (λ (a : ArchWords). IsPartDone (IsListing (g.R.ReadParagraphs.breaks c.args.packages.now) a read.0 (begun (paragraphs_in (lines_of list.0))))
           (λ records. g.T.MergeTables.holds c.merge_part.new.tables (with_records records at)) at.now.machine.records a.name end) arch_is
-          (subst (λ place. IsPartDone (IsListing g.R.ReadParagraphs.breaks c.merge_part.new.packages c.in_ok-arch.arch read.0 place)
+          (subst (λ place. IsPartDone (IsListing (g.R.ReadParagraphs.breaks c.args.packages.now) c.in_ok-arch.arch read.0 place)
           (λ records. g.T.MergeTables.holds c.merge_part.new.tables (with_records records at)) at.now.machine.records c.in_ok-arch.arch.name end) list.1.0 done.1.1));
     })
     (c.merge_part.ensures.value at archs read.0 clean holds first unsaved empty read.1.1

@@ -24,10 +24,10 @@ returns-clause-value g c = λ at machine clean holds unsaved no_sources no_binar
     let list = unread-text MayStand c.args.sources.now filled.0 filled.1.0 unread in
     let text = list.0 in
     let Held = λ (rows : List SourceRow). g.T.MergeTables.holds c.fill_sources.new.tables (with_sources rows at) in
-    let read = sources-read g.R.ReadParagraphs.breaks c.fill_sources.new.list Held text c.deref-2.result.now c.in_ok-bad.bad
-    (subst (λ place. IsFilled (sources_at place) (sources_wanted c.deref-2.result.now) Held (IsRefused g.R.ReadParagraphs.breaks c.fill_sources.new.list Sources source_row_at place) c.in_ok-bad.bad)
+    let read = sources-read (g.R.ReadParagraphs.breaks c.args.sources.now) Held text c.deref-2.result.now c.in_ok-bad.bad
+    (subst (λ place. IsFilled (sources_at place) (sources_wanted c.deref-2.result.now) Held (IsRefused (g.R.ReadParagraphs.breaks c.args.sources.now) Sources source_row_at place) c.in_ok-bad.bad)
     list.1.0 filled.1.1) in
-    let merged = c.in_ok-replies.ensures.value (with_sources read.0 at) machine text c.deref-2.result.now at_parts read.1.0 unsaved no_binaries parts_unread read.1.1 known in
+    let merged = c.in_ok-replies.ensures.value (with_sources read.0 at) machine text c.deref-2.result.now at_parts read.1.0 unsaved no_binaries parts_unread read.1.1.0 known in
     let parts = merged.done in
     let cleared = c.in_ok-clear_all.ensures.value (with_records parts.last (with_sources read.0 at)) clean parts.holds in
     let as_was : record { now = record { machine = record at.now.machine { records = parts.last }; sources = []; binaries = [] }; saved = at.saved } ≡ with_records parts.last at =
@@ -35,6 +35,8 @@ returns-clause-value g c = λ at machine clean holds unsaved no_sources no_binar
     record {
       text = text;
       begins = list.1.1;
+      bad = c.in_ok-bad.bad;
+      read = read.1.1.1;
       merged = record {
         given = merged.given;
         are = merged.are;

@@ -2,7 +2,7 @@ use Rattle.std.proofs.Common.{◌≡◌, ℕ, List, [], None}
 use Rattle.std.specs.List.{AllByRecursion}
 use Rattle.deb_relations.specs.declared.arch.ArchWords.{ArchWords}
 use Rattle.wb_states.specs.Machine.{Machine}
-use Rattle.wb_archive.specs.Merges.{IsGiven, IsPartUnread}
+use Rattle.wb_archive.specs.Merges.{BreaksFor, IsGiven, IsPartUnread}
 use Rattle.wb_archive.specs.Parts.{IsPartEnd}
 use Rattle.wb_archive.specs.Sources.{AreAllKnown, HasSources}
 use Rattle.wb_archive.specs.Tables.{Tables, with_records}
@@ -15,7 +15,7 @@ invariant-loop-part g l = record {
   kinds : AllByRecursion (λ reply. IsPartEnd reply.end) l.replies.items;
   half : (at : Tables) (machine : Machine) (text : List ℕ) (archs : List ArchWords) → g.T.MergeTables.is_clean l.tables → g.T.MergeTables.holds l.fn.tables at
       → at.saved ≡ None → at.now.binaries ≡ [] → AllByRecursion (IsPartUnread g.R.ReadParagraphs.may_stand_at machine) l.fn.parts.items
-      → HasSources g.R.ReadParagraphs.breaks text archs at.now.sources l.bad → AreAllKnown archs l.fn.parts.items
-      → IsHalfMerged g.R.ReadParagraphs.may_stand_at machine archs (IsGiven g.R.ReadParagraphs.breaks machine text)
+      → HasSources text archs at.now.sources l.bad → AreAllKnown archs l.fn.parts.items
+      → IsHalfMerged g.R.ReadParagraphs.may_stand_at machine archs (IsGiven (BreaksFor g.R.ReadParagraphs.breaks l.fn.parts.items) machine text l.bad)
       (λ records. g.T.MergeTables.holds l.tables (with_records records at)) l.fn.parts.items at.now.machine.records l.replies.items l.part-iterator.rest.items;
 }

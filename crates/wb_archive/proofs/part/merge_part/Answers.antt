@@ -31,7 +31,7 @@ returns-in-Some-clause-value g c = λ at archs rows clean holds first unsaved em
       filled.0,
       (
         filled.1.0,
-        part-refused g.R.ReadParagraphs.breaks c.fill_binaries.new.list (λ (records : Records). g.T.MergeTables.holds c.take_back.new.tables (with_records records at))
+        part-refused (g.R.ReadParagraphs.breaks c.args.packages.now) (λ (records : Records). g.T.MergeTables.holds c.take_back.new.tables (with_records records at))
             c.args.arch.now at.now.machine.records rows filled.0 c.in-Some.bad end filled.1.1.0 (if-ok-at _ c.take_back.result end done c.take_back.ensures.end)
             (subst (λ (t : Tables). g.T.MergeTables.holds c.take_back.new.tables t) as_was back),
       ),
@@ -51,7 +51,7 @@ returns-clause-value g c = λ at archs rows clean holds first unsaved empty sour
       filled.0,
       (
         filled.1.0,
-        part-kept g.R.ReadParagraphs.breaks c.fill_binaries.new.list (λ (records : Records). g.T.MergeTables.holds c.keep.new.tables (with_records records at))
+        part-kept (g.R.ReadParagraphs.breaks c.args.packages.now) (λ (records : Records). g.T.MergeTables.holds c.keep.new.tables (with_records records at))
             (λ (binaries : List BinaryRow). g.T.MergeTables.holds c.fill_binaries.new.tables (with_binaries binaries (with_savepoint at)))
             c.args.arch.now archs (contains text_cmp c.in_ok-waited.waited) at.now.machine.records rows filled.0 end there
             (c.in_ok-waited.ensures.value (with_savepoint at) at_waited saved) filled.1.1

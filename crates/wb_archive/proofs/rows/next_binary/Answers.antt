@@ -34,5 +34,5 @@ returns-in-Ok-Some-clause-refused g c = λ count.
 pub returns-clause-refused : goal.returns-clause-refused
 returns-clause-refused g c = λ count.
     let laws = g.met.R.ReadParagraphs in
-    refuses-control g.R.ReadParagraphs.may_stand_at g.R.ReadParagraphs.passed laws.stands laws.counts Packages (binary_row_at c.args.arch.now) g.R.ReadParagraphs.breaks c.args.list.now c.next.new.self c.in-Err.fault c.fault_of.result
+    refuses-control g.R.ReadParagraphs.may_stand_at g.R.ReadParagraphs.passed laws.stands laws.counts Packages (binary_row_at c.args.arch.now) g.R.ReadParagraphs.breaks c.args.list.now c.in-Err.fault c.fault_of.result
     c.in-Err.ensures.refused c.fault_of.ensures.is

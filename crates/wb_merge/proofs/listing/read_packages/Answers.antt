@@ -3,8 +3,7 @@ use Rattle.std.specs.FinMap as finite
 use Rattle.deb_relations.specs.Satisfaction.{no_pairs}
 use Rattle.deb_text.specs.Text.{text_cmp}
 use Rattle.wb_merge.specs.Offers.{with_binary}
-use Rattle.wb_merge.proofs.ReadCountLemmas.{begins, all-binaries}
-use Rattle.wb_merge.proofs.SourcesLemmas.{first-takes}
+use Rattle.wb_merge.proofs.ReadCountLemmas.{begins, all-binaries, first-takes}
 use Rattle.wb_merge.proofs.listing.read_packages.Goals as goal
 
 pub loop-available-init : goal.loop-available-init
