@@ -1,5 +1,5 @@
 -- A report moves records without a hold, keeps the invariant of the office, and is refused as its texts and the office say.
-use Rattle.std.proofs.Common.{◌≡◌, ◌≢◌, ◌∙◌, refl, sym, ap, subst, inl, ℕ, ◌+◌, ◌<◌, ◌≤◌, Bool, true, false, cond, ◌&&◌, List, [], ◌∷◌, Option, Some, None, Result, Ok, Err, IfErr, IfSome, OnOk, IsTrue, bytes_eq, nat_le, not, option_map, option_and_then, IsErrAnd}
+use Rattle.std.proofs.Common.{◌≡◌, ◌≢◌, ◌∙◌, refl, sym, ap, subst, inl, ℕ, ◌+◌, ◌<◌, ◌≤◌, Bool, true, false, cond, ◌&&◌, List, [], ◌∷◌, Option, Some, None, Result, Ok, Err, IfErr, IfSome, OnOk, IsTrue, bytes_eq, nat_le, not, option_map, IsErrAnd}
 use Rattle.std.specs.Option.{option_or}
 use Rattle.std.specs.FinMap as map
 use Rattle.std.specs.FinSet as set
@@ -22,9 +22,8 @@ use Rattle.wb_merge.specs.declared.report.ReportFault.TheVariants as fault
 use Rattle.wb_merge.specs.declared.report.ReportLine.{ReportLine}
 use Rattle.wb_merge.specs.Merged.{Records}
 use Rattle.wb_merge.specs.Report.{Lines, by_source, first_bad_line, lines_in, record_after_report, refusal_of_report, report_of, report_takes_memory}
-use Rattle.wb_merge.specs.Reported.{changed_by_line, record_by_line, records_reported, row_reported}
+use Rattle.wb_merge.specs.Reported.{record_by_line, records_reported}
 use Rattle.wb_merge.proofs.NameLemmas.{bytes_eq-is, none-is}
-use Rattle.wb_merge.proofs.RecordLemmas.{same-record-is}
 use Rattle.wb_merge.proofs.ReportFormLemmas.{report-form}
 use Rattle.wb_merge.proofs.ReportMoveLemmas.{after-report, kept-well, reported-cases}
 use Rattle.wb_merge.proofs.ReportedLemmas.{reported-here, reported-others, reported-unnamed}
@@ -241,55 +240,3 @@ pub told-Report-err : {X : Type 0} (fields : Report) (r : Result X Refusal) (wro
 told-Report-err fields (Ok x) wrong is good refused wants = absurd is
 told-Report-err fields (Err refusal) wrong is good refused wants =
     told-Report fields (Err refusal) good tt (report-bad fields.text wrong refusal refused is) (report-wants fields.text wrong refusal wants is)
-
--- ---- the row of a source package
-
--- no line names it
-pub unnamed-row : (old : Records) (arch : List ℕ) (lines : Lines) (source : List ℕ) → map.get lines source ≡ None → None ≡ row_reported old arch lines source
-unfolding row_reported
-unnamed-row old arch lines source unnamed = sym (
-    ap (λ (line : Option ReportLine). option_map (λ (new : Record). ((arch, source), new)) (option_and_then (changed_by_line line) (map.get old (arch, source)))) unnamed
-    ∙ ap (option_map (λ (new : Record). ((arch, source), new))) (at (map.get old (arch, source))))
-  where
-    at : (found : Option Record) → option_and_then (changed_by_line None) found ≡ None
-    at None = refl
-    at (Some current) = ap (λ b. cond b None (Some current)) ((same-record-is current current).1 refl)
-
--- it has no record
-pub unfound-row : (old : Records) (arch : List ℕ) (lines : Lines) (source : List ℕ) → map.get old (arch, source) ≡ None → None ≡ row_reported old arch lines source
-unfolding row_reported
-unfound-row old arch lines source none =
-    sym (ap (λ (found : Option Record). option_map (λ (new : Record). ((arch, source), new)) (option_and_then (changed_by_line (map.get lines source)) found)) none)
-
-found-row : (old : Records) (arch : List ℕ) (lines : Lines) (source : List ℕ) (line : ReportLine) (current : Record) → map.get lines source ≡ Some line
-    → map.get old (arch, source) ≡ Some current → row_reported old arch lines source ≡ option_map (λ (new : Record). ((arch, source), new)) (changed_by_line (Some line) current)
-unfolding row_reported
-found-row old arch lines source line current named there i =
-    option_map (λ (new : Record). ((arch, source), new)) (option_and_then (changed_by_line (named i)) (there i))
-
--- its record stays as it is
-pub kept-row : (old : Records) (arch : List ℕ) (lines : Lines) (source : List ℕ) (line : ReportLine) (current : Record) → map.get lines source ≡ Some line
-    → map.get old (arch, source) ≡ Some current → changed_by_line (Some line) current ≡ None → None ≡ row_reported old arch lines source
-kept-row old arch lines source line current named there same =
-    sym (found-row old arch lines source line current named there ∙ ap (option_map (λ (new : Record). ((arch, source), new))) same)
-
--- its record differs
-pub changed-row : (old : Records) (arch : List ℕ) (lines : Lines) (source : List ℕ) (line : ReportLine) (current new : Record) → map.get lines source ≡ Some line
-    → map.get old (arch, source) ≡ Some current → changed_by_line (Some line) current ≡ Some new → Some ((arch, source), new) ≡ row_reported old arch lines source
-changed-row old arch lines source line current new named there differs =
-    sym (found-row old arch lines source line current named there ∙ ap (option_map (λ (new : Record). ((arch, source), new))) differs)
-
--- ---- the refusal of a report, check by check
-
--- what is known on a way is known of each value that comes of it
-pub is-known : {X E P : Type 0} (r : Result X E) → P → OnOk r P
-is-known (Ok x) known = known
-is-known (Err e) known = tt
-
--- a report of an architecture that is well-formed, with a bad line
-pub refused-lines : {X : Type 0} (machine : Machine) (fields : Report) (r : Result X Refusal) (wrong : ReportFault) → IsErrAnd r (λ refusal. refusal ≡ refusal_of_report wrong)
-    → is_arch_name fields.arch ≡ true → (wrong ≢ fault.Memory → report_of fields.text ≡ Err wrong)
-    → IfErr r (λ refusal. IsOfMachine refusal → first_refusal machine (of.Report fields) ≡ Some refusal)
-refused-lines machine fields (Ok x) wrong is good refused = tt
-refused-lines machine fields (Err refusal) wrong is good refused = λ other.
-    first_refusal-Report machine fields false (Some refusal) _ _ (ap not good) (report-bad fields.text wrong refusal refused is other) refl refl

@@ -1,10 +1,9 @@
 //! The changes of a part of the office: each changes the entry of its key and no other.
-ghost use Rattle.std.specs.Prelude.{◌≡◌, IfOk, OnOk, OnErr};
+ghost use Rattle.std.specs.Prelude.{◌≡◌, OnOk, OnErr};
 ghost use Rattle.std.specs.FinMap as map;
 ghost use Rattle.std.specs.FinSet as set;
 
-use crate::keyed::key_of;
-use crate::{OfficePart, Records};
+use crate::OfficePart;
 use deb_text::Text;
 use std::alloc::AllocError;
 use wb_states::{OsCpu, Record};
@@ -19,19 +18,6 @@ impl OfficePart {
         ensures err { OnErr result (self.new ≡ self.old) }
     {
         self.records.insert((arch, source), current)?;
-        Ok(())
-    }
-
-    /// Takes the record of the source package `source` on the architecture `arch` out, if it has
-    /// one. All else stays. The only error is that memory ran out for the key by which it is sought;
-    /// all is then as it was (this project's own).
-    pub fn remove(&mut self, arch: &Text, source: &Text) -> Result<(), AllocError>
-        ensures ok { OnOk result (self.new
-            ≡ record self.old { records = map.remove self.old.records (arch.now, source.now) }) }
-        ensures err { OnErr result (self.new ≡ self.old) }
-    {
-        let key = key_of(arch, source)?;
-        self.records.remove(&key);
         Ok(())
     }
 
@@ -55,24 +41,5 @@ impl OfficePart {
     {
         self.builders.insert((builder, arch))?;
         Ok(())
-    }
-
-    /// A copy of all records, for a change that is made whole or not at all. The only error is that memory
-    /// ran out (this project's own).
-    pub fn copy_records(&self) -> Result<Records, AllocError>
-        ensures value { IfOk result (λ records. records ≡ self.now.records) }
-    {
-        Ok(Records {
-            alloc: self.alloc,
-            rows: self.records.clone()?,
-        })
-    }
-
-    /// Puts these records in the place of all that there were; all else stays. It cannot fail and takes no
-    /// memory (this project's own).
-    pub fn replace_records(&mut self, records: Records)
-        ensures ok { self.new ≡ record self.old { records = records } }
-    {
-        self.records = records.rows;
     }
 }

@@ -1,14 +1,15 @@
 //! One command, carried out in memory.
-ghost use Rattle.std.specs.Prelude.{OnOk};
+ghost use Rattle.std.specs.Prelude.{◌≡◌, None, OnOk};
+ghost use Rattle.wb_step.specs.Arguments.{arguments_of};
 ghost use Rattle.wb_step.specs.Carries.{Carries};
 ghost use Rattle.wb_step.specs.Utf8.{HasUtf8Texts};
 
-use crate::{OfficePart, builder, holder, merging, named, operator, priority, reporting};
+use crate::{OfficePart, builder, holder, named, operator, priority};
 use std::alloc::Global;
 use wb_states::{Command, Move, Refusal, Reply};
 
-/// Carries out one command on a part of an office in memory, whole or not at all, and answers it. The part has what the
-/// command names, and need not be consistent.
+/// Carries out one command on a part of an office in memory, whole or not at all, and answers it. The command is neither a
+/// merge nor a report. The part has what the command names, and need not be consistent.
 ///
 /// The refusal is the first that is true of the command in the order of [`Refusal`]; `Memory` comes if there is no memory
 /// for it, at any point after its names, its version, its number and the lengths of its texts were looked at. After every
@@ -18,6 +19,7 @@ pub fn carry_out(
     office: &mut OfficePart,
     command: &Command,
 ) -> Result<Reply, Refusal>
+    requires single { (arguments_of command.now).imports ≡ None }
     ensures carries { Carries office.old office.new command.now result }
     ensures utf8 { OnOk result (HasUtf8Texts command.now) }
 {
@@ -44,7 +46,6 @@ pub fn carry_out(
         Command::NotForUs(command) => named::not_for_us(alloc, office, command),
         Command::Rebuild(command) => named::rebuild(alloc, office, command),
         Command::BuildPriority(command) => priority::build_priority(alloc, office, command),
-        Command::Merge(command) => merging::merge(alloc, office, command),
-        Command::Report(command) => reporting::report(alloc, office, command),
+        Command::Merge(_) | Command::Report(_) => unreachable!(),
     }
 }

@@ -11,9 +11,9 @@ ghost use Rattle.wb_step.specs.Checks.{is_bad_number, is_bad_priority, key_refus
 ghost use Rattle.wb_step.specs.TextChecks.{ChecksTexts, Tells};
 
 use crate::forms::{
-    has_bad_arch, has_bad_builder, has_bad_entry, has_bad_key, has_bad_request, has_bad_take,
+    has_bad_arch, has_bad_builder, has_bad_entry, has_bad_key, has_bad_part, has_bad_request,
+    has_bad_take, repeats_arch,
 };
-use crate::merging::{has_bad_part, repeats_arch};
 use crate::texts::{
     build_priority, is_long, read_refusal_or, read_relations, read_version, rebuild_number,
 };
