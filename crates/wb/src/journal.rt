@@ -1,11 +1,14 @@
 //! The journal of an office in a file.
 
+use deb_text::Items;
+use http_server::Log;
 use jiff::Timestamp;
 use std::alloc::Global;
 use std::fs::{File, OpenOptions};
 use std::io::{self, Read, Seek, SeekFrom, Write};
 use std::os::unix::fs::OpenOptionsExt;
 use wb_journal::{Journal, entry_line, merge_entry_line};
+use wb_states::command::Merge;
 use wb_states::{Command, Reply};
 
 /// A journal in a file, which each entry is appended to: the file may be moved away at any time. An entry that cannot be written
@@ -19,6 +22,8 @@ pub(crate) struct FileJournal<'a> {
     is_cut: bool,
     /// How many entries were lost since the last that was written.
     lost: u64,
+    /// The entries that were given, which only proofs read.
+    entries: Log<Command, Reply>,
 }
 
 impl<'a> FileJournal<'a> {
@@ -29,6 +34,7 @@ impl<'a> FileJournal<'a> {
             file,
             is_cut: ends_within_a_line(rt, file),
             lost: 0,
+            entries: Log::new(),
         }
     }
 
@@ -94,14 +100,25 @@ impl<'a> FileJournal<'a> {
 }
 
 impl<'a> Journal for FileJournal<'a> {
+    ghost entries = { λ journal. journal.entries.items };
+
     fn append(&mut self, command: &Command, reply: &Reply) {
+        let entries = self.entries.and(command, reply);
         let written = self.write_command(command, reply);
         self.report(written);
+        self.entries = entries;
     }
 
     fn append_merge(&mut self, reply: &Reply) {
+        let alloc = self.rt.alloc();
+        let merge = Command::Merge(Merge {
+            sources: Items::new(alloc),
+            parts: Items::new(alloc),
+        });
+        let entries = self.entries.and(&merge, reply);
         let written = self.write_merge(reply);
         self.report(written);
+        self.entries = entries;
     }
 }
 

@@ -15,6 +15,7 @@ use wb_daemon::status;
 use wb_office::Office;
 use wb_sql::{has_first_office_tables, lacks_office};
 use wb_states::StoreFault;
+use wb_store::RefusedConnection;
 
 /// How many bytes the log of a file has if it holds no commit: those of its header.
 const EMPTY_LOG: u64 = 41;
@@ -86,9 +87,9 @@ fn ask_file(rt: &HostRuntime, file: &str, words: &[&str]) -> Option<u8> {
     if lacks_office(conn.schema()) {
         return None;
     }
-    match Office::adopt(rt.alloc(), conn) {
+    match Office::try_adopt(rt.alloc(), conn) {
         Ok(mut office) => Some(answer(rt, &mut office, words)),
-        Err(fault) => Some(refuse_fault(rt, file, fault)),
+        Err(refused) => Some(refuse_fault(rt, file, refused.fault)),
     }
 }
 
@@ -129,7 +130,7 @@ fn keep_in(
         return refuse_other(rt, file);
     }
     let is_of_first_format = has_first_office_tables(conn.schema());
-    match Office::adopt(rt.alloc(), conn) {
+    match Office::try_adopt(rt.alloc(), conn) {
         Ok(mut office) => {
             if is_new {
                 report_new(rt, file, found.was_empty);
@@ -141,14 +142,18 @@ fn keep_in(
             close(rt, file, office);
             status
         }
-        Err(fault) => refuse_fault(rt, file, fault),
+        Err(RefusedConnection { fault, conn: left }) => {
+            // The files hold what they held, as the search for the office left it.
+            let _files = wb_sql::surrender(left);
+            refuse_fault(rt, file, fault)
+        }
     }
 }
 
 /// Closes the office in a file. What was committed stays if that fails, which is reported on standard error.
 fn close(rt: &HostRuntime, file: &str, office: Office<FileStore<File>>) {
-    if let Err(fault) = office.close() {
-        let _ = eprintln!(rt; "wb: {file} was not closed: {fault}");
+    if let Err(refused) = office.try_close() {
+        let _ = eprintln!(rt; "wb: {file} was not closed: {}", refused.fault);
     }
 }
 

@@ -11,8 +11,8 @@ use Rattle.wb_states.specs.Machine.{Machine}
 use Rattle.wb_step.specs.Step.{Outcome, step}
 use Rattle.wb_words.specs.declared.words.PartNames.{PartNames}
 use Rattle.wb_archive.specs.declared.merge_from.ArchList.{ArchList}
-use Rattle.wb_archive.specs.Readers.{IsListOf, IsMergeOf, MayLeave}
-use Rattle.wb_archive.proofs.ReaderLemmas.{texts-step, texts-unread}
+use Rattle.wb_archive.specs.Readers.{IsListOf, IsMergeOf, IsOfRead, MayLeave}
+use Rattle.wb_archive.proofs.ReaderLemmas.{read-texts, texts-step, texts-unread}
 use Rattle.wb_daemon.specs.declared.lists.MergeLists.{MergeLists}
 use Rattle.wb_daemon.specs.Lists.{MayRead, MayReadLess, MayReadMerge, MayReadParts, IsAllOf, OpensMerge, OpensParts}
 use Rattle.wb_daemon.specs.Run.{IsMergeAs}
@@ -81,7 +81,7 @@ pub merge-command : (may_read : MayRead) (sources : List ℕ) (names : List Part
     → IsMergeAs may_read sources names machine outcome
     → (command : Command) × (MayReadMerge may_read sources names command × ((outcome.1 ≡ (step machine command).1) × (IsOk outcome.0 → IsOk (step machine command).0)))
 merge-command may_read sources names machine outcome h =
-    let as_step = texts-step h.text h.parts machine outcome h.comes in (
+    let as_step = texts-step IsOfRead (λ _. IsOfRead) h.text h.parts machine outcome h.comes in (
       Merge h.text as_step.others,
       (
         record { text = h.text; reads = h.reads; parts = h.parts; are = h.are; others = as_step.others; stand = as_step.stand; is = refl },
@@ -98,7 +98,7 @@ module _ {R : Type 0} (may_read : MayRead) (remaining : R → Option (List ℕ))
     reads = opens.0 h.text (left-all (remaining opened.sources) h.text h.is);
     parts = h.parts;
     are = parts-read may_read remaining names opened.parts.items h.parts opens.1 h.are;
-    comes = h.answers;
+    comes = read-texts remaining opened.sources opened.parts.items machine outcome h;
   }
 
   -- a merge of opened lists of which none could be read on is refused

@@ -15,7 +15,7 @@ use Rattle.wb_states.specs.declared.refusal.Refusal.TheVariants.{Closed, Store}
 use Rattle.wb_states.specs.declared.reply.Reply.{Reply}
 use Rattle.wb_states.specs.declared.store_fault.StoreFault.{StoreFault}
 use Rattle.wb_step.specs.Step.{Outcome, step}
-use Rattle.wb_archive.specs.Readers.{IsMergeOfTexts}
+use Rattle.wb_archive.specs.Readers.{IsMergeOfTexts, IsOfRead}
 use Rattle.wb_words.specs.Words.{invocation_in}
 use Rattle.wb_words.specs.declared.words.Invocation.{Invocation}
 use Rattle.wb_words.specs.declared.words.Invocation.TheVariants.{Command as invocation_Command, Merge as invocation_Merge, Query as invocation_Query, Report as invocation_Report}
@@ -123,7 +123,7 @@ pub record IsMergeAs (may_read : MayRead) (sources : List ℕ) (names : List Par
   pub reads : may_read.reads sources text
   pub parts : List Part
   pub are : MayReadParts may_read names parts
-  pub comes : IsMergeOfTexts text parts machine outcome
+  pub comes : IsMergeOfTexts IsOfRead (λ _. IsOfRead) text parts machine outcome
 
 -- what may be said to a merge of the lists that a line names, once they were opened
 abbrev pub IsMergeResponse : MayRead → List ℕ → List PartNames → Machine → LineResponse → Type 0

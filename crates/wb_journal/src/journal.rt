@@ -1,5 +1,17 @@
 //! The layer around an office that writes its journal.
-ghost use Rattle.std.specs.Prelude.{◌≡◌, Err};
+ghost use Rattle.std.specs.Prelude.{◌≡◌, ◌∷◌, ◌++◌, List, [], Err, IfErr, IfOk, Ok, Some, false};
+ghost use Rattle.wb_archive.specs.Readers.{IsMergeOf, MayLeave, archs_refusal};
+ghost use Rattle.wb_journal.specs.Appended.{entries_of_command, entries_of_merge, is_new, merge_of_readers};
+ghost use Rattle.wb_states.specs.declared.command.Command.{Command as AnyCommand};
+ghost use Rattle.wb_states.specs.declared.refusal.Refusal.{Refusal as AnyRefusal};
+ghost use Rattle.wb_states.specs.declared.refusal.Refusal.TheVariants.{Closed, Memory, Store as OfStore};
+ghost use Rattle.wb_states.specs.declared.reply.Reply.{Reply as AnyReply};
+ghost use Rattle.wb_states.specs.declared.store_fault.StoreFault.{StoreFault};
+ghost use Rattle.wb_states.specs.Machine.{Machine};
+ghost use Rattle.wb_states.specs.Refusals.{IsOfMachine, is_of_store};
+ghost use Rattle.wb_step.specs.Checks.{MayWantMemory};
+ghost use Rattle.wb_step.specs.Offices.{StandsOn};
+ghost use Rattle.wb_step.specs.Step.{step};
 
 use std::io::BufRead;
 use wb_archive::{ArchList, MergeFrom};
@@ -9,11 +21,17 @@ use wb_step::CarryOut;
 /// Where entries go. What becomes of an entry that cannot be written is the journal's own affair: nothing of the office
 /// depends on it (this project's own).
 pub trait Journal {
+    // The entries that were given, the oldest first: commands that an office accepted, each with its reply.
+    ghost entries: { Self → List (AnyCommand × AnyReply) };
+
     /// Appends the entry of a command that the office accepted, and committed, with its reply.
-    fn append(&mut self, command: &Command, reply: &Reply);
+    fn append(&mut self, command: &Command, reply: &Reply)
+        ensures appended { entries self.new ≡ entries self.old ++ (command.now, reply.now) ∷ [] };
 
     /// Appends the entry of a merge of lists that readers gave, which the office accepted, and committed, with its reply.
-    fn append_merge(&mut self, reply: &Reply);
+    fn append_merge(&mut self, reply: &Reply)
+        ensures appended { entries self.new
+            ≡ entries self.old ++ (merge_of_readers, reply.now) ∷ [] };
 }
 
 /// An office that has each command that it accepts appended to a journal once it is committed. It promises what the office
@@ -22,18 +40,23 @@ pub trait Journal {
 #[derive(Drop)]
 pub struct Journaled<'a, O: CarryOut, J: Journal + Drop> {
     office: &'a mut O,
-    journal: J,
+    /// The journal.
+    pub journal: J,
 }
 
 impl<'a, O: CarryOut, J: Journal + Drop> Journaled<'a, O, J> {
     /// The office with its journal. Takes no memory.
-    pub fn new(office: &'a mut O, journal: J) -> Self {
+    pub fn new(office: &'a mut O, journal: J) -> Self
+        ensures value { result.journal ≡ journal }
+    {
         Journaled { office, journal }
     }
 }
 
 /// Whether the reply is to a command that was carried out, and not to a retry.
-fn is_new(reply: &Reply) -> bool {
+fn is_new(reply: &Reply) -> bool
+    ensures { result ≡ is_new reply.now }
+{
     !matches!(reply, Reply::Again { .. })
 }
 
@@ -54,7 +77,40 @@ impl<'a, O: CarryOut, J: Journal + Drop> CarryOut for Journaled<'a, O, J> {
         self.office.closed()
     }
 
-    fn carry_out(&mut self, command: &Command) -> Result<Reply, Refusal> {
+    // It promises what its office promises, of the same states, and has an entry more for a command that was accepted.
+    fn carry_out(&mut self, command: &Command) -> Result<Reply, Refusal>
+        // whatever the store gives back
+        ensures shut { O.CarryOut.is_closed self.old.office.now
+            → (result ≡ Err Closed) × O.CarryOut.is_closed self.new.office.now }
+        ensures told { result ≡ Err Closed → O.CarryOut.is_closed self.old.office.now }
+        ensures stands { ¬ O.CarryOut.is_closed self.old.office.now
+            → StandsOn (O.CarryOut.is_closed self.new.office.now) result }
+        ensures entries { J.Journal.entries self.new.journal
+            ≡ J.Journal.entries self.old.journal ++ entries_of_command command.now result }
+        // at each state at which the office stands
+        ensures clean { O.CarryOut.is_clean self.new.office.now → O.CarryOut.is_clean self.old.office.now }
+        ensures reply { (machine : Machine) → O.CarryOut.is_clean self.new.office.now
+            → O.CarryOut.stands_at self.old.office.now machine
+            → IfOk result (λ reply. ((step machine command.now).0 ≡ Ok reply)
+            × O.CarryOut.stands_at self.new.office.now (step machine command.now).1) }
+        ensures refused { (machine : Machine) → O.CarryOut.is_clean self.new.office.now
+            → O.CarryOut.stands_at self.old.office.now machine
+            → IfErr result (λ refusal. IsOfMachine refusal → is_of_store refusal ≡ false
+            → ((step machine command.now).0 ≡ Err refusal)
+            × O.CarryOut.stands_at self.new.office.now machine) }
+        ensures memory { (machine : Machine) → O.CarryOut.is_clean self.new.office.now
+            → O.CarryOut.stands_at self.old.office.now machine
+            → result ≡ Err Memory
+            → MayWantMemory command.now × O.CarryOut.stands_at self.new.office.now machine }
+        ensures closed { (machine : Machine) → O.CarryOut.is_clean self.new.office.now
+            → O.CarryOut.stands_at self.old.office.now machine
+            → result ≡ Err Closed
+            → O.CarryOut.is_closed self.new.office.now × O.CarryOut.stands_at self.new.office.now machine }
+        ensures store { (machine : Machine) → O.CarryOut.is_clean self.new.office.now
+            → O.CarryOut.stands_at self.old.office.now machine
+            → (fault : StoreFault) → result ≡ Err (OfStore fault)
+            → O.CarryOut.leaves self.new.office.now machine (step machine command.now).1 fault }
+    {
         let answer = self.office.carry_out(command);
         if let Ok(reply) = &answer {
             if is_new(reply) {
@@ -72,11 +128,47 @@ impl<'a, O: CarryOut, J: Journal + Drop> CarryOut for Journaled<'a, O, J> {
 }
 
 impl<'a, O: MergeFrom, J: Journal + Drop> MergeFrom for Journaled<'a, O, J> {
+    // It promises what its office promises, of the same states, and has an entry more for a merge that was accepted.
     fn merge_from<R: BufRead + Drop>(
         &mut self,
         sources: R,
         parts: Vec<ArchList<R>>,
-    ) -> Result<Reply, Refusal> {
+    ) -> Result<Reply, Refusal>
+        // whatever the store gives back
+        ensures shut { O.CarryOut.is_closed self.old.office.now
+            → (result ≡ Err Closed) × O.CarryOut.is_closed self.new.office.now }
+        ensures told { result ≡ Err Closed → O.CarryOut.is_closed self.old.office.now }
+        ensures stands { ¬ O.CarryOut.is_closed self.old.office.now
+            → StandsOn (O.CarryOut.is_closed self.new.office.now) result }
+        ensures names { ¬ O.CarryOut.is_closed self.old.office.now → (refusal : AnyRefusal)
+            → archs_refusal parts.items ≡ Some refusal → result ≡ Err refusal }
+        ensures entries { J.Journal.entries self.new.journal
+            ≡ J.Journal.entries self.old.journal ++ entries_of_merge result }
+        // at each state at which the office stands
+        ensures clean { O.CarryOut.is_clean self.new.office.now → O.CarryOut.is_clean self.old.office.now }
+        ensures reply { (machine : Machine) → O.CarryOut.is_clean self.new.office.now
+            → O.CarryOut.stands_at self.old.office.now machine
+            → IfOk result (λ reply. (after : Machine)
+            × (IsMergeOf R.remaining sources parts.items machine (Ok reply, after)
+            × O.CarryOut.stands_at self.new.office.now after)) }
+        ensures refused { (machine : Machine) → O.CarryOut.is_clean self.new.office.now
+            → O.CarryOut.stands_at self.old.office.now machine
+            → IfErr result (λ refusal. IsOfMachine refusal → is_of_store refusal ≡ false
+            → IsMergeOf R.remaining sources parts.items machine (Err refusal, machine)
+            × O.CarryOut.stands_at self.new.office.now machine) }
+        ensures memory { (machine : Machine) → O.CarryOut.is_clean self.new.office.now
+            → O.CarryOut.stands_at self.old.office.now machine
+            → result ≡ Err Memory → O.CarryOut.stands_at self.new.office.now machine }
+        ensures closed { (machine : Machine) → O.CarryOut.is_clean self.new.office.now
+            → O.CarryOut.stands_at self.old.office.now machine
+            → result ≡ Err Closed
+            → O.CarryOut.is_closed self.new.office.now × O.CarryOut.stands_at self.new.office.now machine }
+        ensures store { (machine : Machine) → O.CarryOut.is_clean self.new.office.now
+            → O.CarryOut.stands_at self.old.office.now machine
+            → (fault : StoreFault) → result ≡ Err (OfStore fault) → (after : Machine)
+            × (MayLeave R.remaining sources parts.items machine after
+            × O.CarryOut.leaves self.new.office.now machine after fault) }
+    {
         let answer = self.office.merge_from(sources, parts);
         if let Ok(reply) = &answer {
             self.journal.append_merge(reply);

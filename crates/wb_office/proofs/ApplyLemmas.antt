@@ -29,7 +29,7 @@ use Rattle.wb_office.specs.declared.carry.CarryError.TheVariants.{TakenBack, Rol
 use Rattle.wb_office.specs.declared.known.Known.{Known}
 use Rattle.wb_office.specs.Answers.{IsLeft, Responds}
 use Rattle.wb_office.specs.Kinds.{IsOfStep}
-use Rattle.wb_office.specs.Failed.{HasFailed}
+use Rattle.wb_office.specs.Failed.{HasFailed, IsOfficeOver}
 use Rattle.wb_office.specs.Standing.{Knows, StandsAt, LeavesOne}
 use Rattle.wb_office.specs.Applies.{refusal_for, refusal_of, CannotBeUsed, IsRefusedIn, Applies, Ends, EndsWith}
 use Rattle.wb_store.proofs.StaysLemmas.{was_clean}
@@ -308,6 +308,10 @@ texts_refused {S} g command was_closed known held opened refusal checks r given 
       | inr of_machine ↦ inl (ap Err (some_is refusal other (sym (checks.refused of_machine) ∙ is)))
     ]
 
+-- an office that stands at a state and is open
+pub office_over : {S : Type 0} (g : Ghosts S) {machine : Machine} {is_closed : Bool} {known : Known} {held : Held S} → StandsAt machine is_closed known (state g held) → is_closed ≡ false → IsOfficeOver g machine held
+office_over g stands opened = record { consistent = stands.consistent; settled = stands.back.settled (stands.is_open opened) }
+
 module _ {S : Type 0} (g : Ghosts S) (command : Command) (was_closed : Bool) (was_known : Known) (old : Held S) (opened : was_closed ≡ false) (good : text_refusal command ≡ None) (wants : MayWantMemory command) where
   no_texts : (refusal : Refusal) → text_refusal command ≡ Some refusal → ⊥
   no_texts refusal is = none_is_no_some refusal (sym good ∙ is)
@@ -412,13 +416,13 @@ module _ {S : Type 0} (g : Ghosts S) (command : Command) (was_closed : Bool) (wa
       (λ opened. let left = refused_with Closed is opened in (left.0.ends refl, stands_on Closed left (left.0.shut refl)))
 
   -- the store failed with the fault that is told
-  failed_with : (f : StoreFault) → r ≡ Err (Store f) → was_closed ≡ false → HasFailed g f new
+  failed_with : (f : StoreFault) → r ≡ Err (Store f) → was_closed ≡ false → HasFailed g machine f new
   failed_with f is opened =
       let why = at_err _ r (Store f) is (h.cause clean machine stands opened) in
       let same : new ≡ why.1 = why.6 (λ none. cc) in
-      inl (machine, command, old, why.0, subst (λ held. IsLeft g machine command old held why.0) (sym same) why.2, why.3)
+      inl (command, old, office_over g stands opened, why.0, subst (λ held. IsLeft g machine command old held why.0) (sym same) why.2, why.3)
 
-  pub carried_store : (f : StoreFault) → r ≡ Err (Store f) → LeavesOne machine (step machine command).1 is_closed (state g new) × HasFailed g f new
+  pub carried_store : (f : StoreFault) → r ≡ Err (Store f) → LeavesOne machine (step machine command).1 is_closed (state g new) × HasFailed g machine f new
   carried_store f is = open_or_shut was_closed
       (λ closed. absurd (store_is_not_closed (sym is ∙ (h.shut closed).0)))
       (λ opened. let left = refused_with (Store f) is opened in (record { closed = left.0.ends refl; left = left.0.left }, failed_with f is opened))

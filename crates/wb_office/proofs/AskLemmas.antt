@@ -34,7 +34,7 @@ use Rattle.wb_office.specs.Standing.{Knows, StandsAt, LeavesOne}
 use Rattle.wb_office.proofs.AnswerLemmas.{found, not_found, stays_others}
 use Rattle.wb_store.proofs.OthersLemmas.{others_equal}
 use Rattle.wb_store.proofs.StaysLemmas.{was_clean}
-use Rattle.wb_office.proofs.ApplyLemmas.{either_of, none_opens, not_closed_for, of_fault, open_or_shut, same_err, settled_at, stays_shut}
+use Rattle.wb_office.proofs.ApplyLemmas.{either_of, none_opens, not_closed_for, of_fault, office_over, open_or_shut, same_err, settled_at, stays_shut}
 
 -- ---- what was looked up
 
@@ -252,9 +252,9 @@ module _ {S : Type 0} {g : Ghosts S} {answer_of : Machine → Result Answer Refu
   asked_closed is = ((h.shut (asked_when_shut is)).1, stays)
 
   -- after a fault of the store it is closed, and nothing was changed
-  pub asked_store : (f : StoreFault) → r ≡ Err (Store f) → LeavesOne machine machine is_closed (state g new) × HasFailed g f new
+  pub asked_store : (f : StoreFault) → r ≡ Err (Store f) → LeavesOne machine machine is_closed (state g new) × HasFailed g machine f new
   asked_store f is = open_or_shut was_closed (λ closed. absurd (store_is_not_closed (sym is ∙ (h.shut closed).0))) (λ opened.
-      (record { closed = closes (h.asked clean machine stands opened); left = either_of machine (state g new) stays.back }, failed (h.asked clean machine stands opened)))
+      (record { closed = closes (h.asked clean machine stands opened); left = either_of machine (state g new) stays.back }, failed opened (h.asked clean machine stands opened)))
     where
       store_is_not_closed : ¬ ◌≡◌ {A = Result Answer Refusal} (Err (Store f)) (Err Closed)
       store_is_not_closed same = cc
@@ -263,12 +263,12 @@ module _ {S : Type 0} {g : Ghosts S} {answer_of : Machine → Result Answer Refu
       no_memory none = cc
 
       -- the store failed with the fault that is told
-      failed : IsAskedAt g answer_of machine old is_closed new r → HasFailed g f new
-      failed (inl answered) = absurd (of_state machine (Store f) refl (answered.0 ∙ is))
-      failed (inr (refusal, fails, unread)) =
+      failed : was_closed ≡ false → IsAskedAt g answer_of machine old is_closed new r → HasFailed g machine f new
+      failed opened (inl answered) = absurd (of_state machine (Store f) refl (answered.0 ∙ is))
+      failed opened (inr (refusal, fails, unread)) =
           let told : refusal ≡ Store f = same_err (sym fails ∙ is) in
           let same : new ≡ unread.at = unread.same (λ none. no_memory (sym told ∙ none)) in
-          inr (inl (old, unread.fault, subst (λ held. FailsToFind g old held unread.fault) (sym same) unread.failed, sym told ∙ unread.told))
+          inr (inl (old, office_over g stands opened, unread.fault, subst (λ held. FailsToFind g old held unread.fault) (sym same) unread.failed, sym told ∙ unread.told))
 
       closes : IsAskedAt g answer_of machine old is_closed new r → is_closed ≡ true
       closes (inl answered) = absurd (of_state machine (Store f) refl (answered.0 ∙ is))

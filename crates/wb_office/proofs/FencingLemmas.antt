@@ -3,6 +3,7 @@ use Rattle.std.proofs.Common.{◌≡◌, ◌⊎◌, inl, inr, List, [], ◌∷�
 use Rattle.wb_states.specs.declared.command.Command.{Command}
 use Rattle.wb_states.specs.declared.store_fault.StoreFault.{StoreFault}
 use Rattle.wb_states.specs.Machine.{Machine}
+use Rattle.wb_step.specs.Replay.{replay}
 use Rattle.wb_step.proofs.HandOutLemmas.{ends, rise}
 use Rattle.wb_office.specs.declared.history.Found.{Found}
 use Rattle.wb_office.specs.declared.history.Found.TheVariants.{Opened, Refused}
@@ -25,13 +26,14 @@ accepted_at : (at first second : Course) → (at ≡ first) ⊎ (at ≡ second) 
 accepted_at at first second (inl is) all also = subst (λ (c : Course). AreAccepted c.0 c.1) (sym is) all
 accepted_at at first second (inr is) all also = subst (λ (c : Course). AreAccepted c.0 c.1) (sym is) also
 
-pub fenced : (Failed : StoreFault → Type 0) (one other : Machine) (first second : Course) → (first.0 ≡ one) ⊎ (first.0 ≡ other) → (second.0 ≡ one) ⊎ (second.0 ≡ other)
+pub fenced : (Failed : Machine → Machine → StoreFault → Type 0) (one other : Machine) (first second : Course) → (first.0 ≡ one) ⊎ (first.0 ≡ other) → (second.0 ≡ one) ⊎ (second.0 ≡ other)
     → AreAccepted first.0 first.1 → AreAccepted second.0 second.1
     → (lives : List (List Command)) (found : List Found) (kept left : Course) → Finds Failed first second lives found kept left → AreFenced one other found
 fenced Failed one other first second which also all both lives [] kept left finds = tt
 fenced Failed one other first second which also all both [] (found ∷ more) kept left finds = absurd finds
 fenced Failed one other first second which also all both (commands ∷ lives) (Refused fault ∷ more) kept left finds = tt
 fenced Failed one other first second which also all both (commands ∷ lives) (Opened accepted rows outcomes ∷ more) kept left (at, is, found, (x, y, x_stands, y_stands, later)) =
+    let failed = Failed (replay (reached at) x) (replay (reached at) y) in
     let began = began_at at first second is which also in
     let were = accepted_at at first second is all both in (
       record {
@@ -44,6 +46,6 @@ fenced Failed one other first second which also all both (commands ∷ lives) (O
         rise = rise at.0 at.1;
         ended = λ sound before one between two after given again whole handed too same. ends at.0 before one between two given again sound handed too same;
       },
-      fenced Failed one other (onward at x) (onward at y) began began (onward_accepted at x were (standing-accepted Failed (reached at) commands outcomes x x_stands))
-          (onward_accepted at y were (standing-accepted Failed (reached at) commands outcomes y y_stands)) lives more kept left later,
+      fenced Failed one other (onward at x) (onward at y) began began (onward_accepted at x were (standing-accepted failed (reached at) commands outcomes x x_stands))
+          (onward_accepted at y were (standing-accepted failed (reached at) commands outcomes y y_stands)) lives more kept left later,
     )

@@ -1,6 +1,7 @@
 pub mod AnswerLemmas
 pub mod ApplyLemmas
 pub mod AskLemmas
+pub mod AskedLemmas
 pub mod CarryLemmas
 pub mod CountLemmas
 pub mod DoubtLemmas

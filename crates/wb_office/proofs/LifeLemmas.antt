@@ -16,7 +16,7 @@ use Rattle.wb_step.specs.Replay.{replay}
 use Rattle.wb_step.specs.Step.{step}
 use Rattle.wb_office.specs.Answers.{is_again}
 use Rattle.wb_office.proofs.AnswerLemmas.{told_again}
-use Rattle.wb_office.specs.Lives.{Outcome, AreClosed, IsAccepted, acknowledged, EndsLife, LeavesStanding, fails_for_some}
+use Rattle.wb_office.specs.Lives.{Outcome, AreClosed, IsAccepted, acknowledged, EndsLife, LeavesStanding, never_fails}
 
 -- what stands after an acknowledged command and later ones
 replay_acknowledged : (machine : Machine) (command : Command) (reply : Reply) (later : List Command) → (step machine command).0 ≡ Ok reply
@@ -28,6 +28,20 @@ replay_acknowledged machine command reply later answers =
         → replay machine ((if again then [] else command ∷ []) ++ later) ≡ replay (step machine command).1 later
     by_reply true told = ap (λ m. replay m later) (sym (told refl))
     by_reply false told = refl
+
+-- the same commands stand if more faults are allowed
+pub stands_wider : (Failed Wider : StoreFault → Type 0) → ((fault : StoreFault) → Failed fault → Wider fault) → (machine : Machine) (commands : List Command) (outcomes : List Outcome) (standing : List Command)
+    → LeavesStanding Failed machine commands outcomes standing → LeavesStanding Wider machine commands outcomes standing
+stands_wider Failed Wider wider machine [] [] standing is = is
+stands_wider Failed Wider wider machine [] (outcome ∷ outcomes) standing none = absurd none
+stands_wider Failed Wider wider machine (command ∷ commands) [] standing none = absurd none
+stands_wider Failed Wider wider machine (command ∷ commands) (Ok reply ∷ outcomes) standing (later, is, told, rest) =
+    (later, is, told, stands_wider Failed Wider wider (step machine command).1 commands outcomes later rest)
+stands_wider Failed Wider wider machine (command ∷ commands) (Err Closed ∷ outcomes) standing none = absurd none
+stands_wider Failed Wider wider machine (command ∷ commands) (Err (Store fault) ∷ outcomes) standing (failed, closed, either) = (wider fault failed, closed, either)
+stands_wider Failed Wider wider machine (command ∷ commands) (Err Memory ∷ outcomes) standing (may, inl rest) = (may, inl (stands_wider Failed Wider wider machine commands outcomes standing rest))
+stands_wider Failed Wider wider machine (command ∷ commands) (Err Memory ∷ outcomes) standing (may, inr none) = (may, inr none)
+stands_wider Failed Wider wider machine (command ∷ commands) (Err r ∷ outcomes) standing rest = (rest.0, stands_wider Failed Wider wider machine commands outcomes standing rest.1)
 
 -- the state after a command in doubt is that after the command, if the step accepts it, and that before it, if not
 pub in_doubt : (machine : Machine) (command : Command)
@@ -114,7 +128,7 @@ module _ {X : Type 0} (is_clean is_closed : X → Type 0) (stands_at : X → Mac
   ends_nowhere commands outcomes old new none machine stands =
       inl (
         [],
-        subst (λ cs. LeavesStanding (fails_for_some leaves) machine cs outcomes []) (sym none.no_commands) (subst (λ os. LeavesStanding (fails_for_some leaves) machine [] os []) (sym none.no_outcomes) refl),
+        subst (λ cs. LeavesStanding never_fails machine cs outcomes []) (sym none.no_commands) (subst (λ os. LeavesStanding never_fails machine [] os []) (sym none.no_outcomes) refl),
         subst (λ x. stands_at x machine) (sym none.same) stands,
       )
 
@@ -148,9 +162,6 @@ module _ {X : Type 0} (is_clean is_closed : X → Type 0) (stands_at : X → Mac
       let rest = goes_shut later closed in inr (inl (record { closed = closed; answers = (refl, rest.0); same = rest.1 }))
 
   module _ (command : Command) (commands : List Command) (old mid : X) where
-    Failed : StoreFault → Type 0
-    Failed = fails_for_some leaves
-
     -- one command that is answered
     led_reply : (reply : Reply) (outcomes : List Outcome) (new : X) → Carried command (Ok reply) old mid → Led commands outcomes mid new
         → (machine : Machine) → is_clean new → stands_at old machine → EndsLife stands_at leaves machine (command ∷ commands) (Ok reply ∷ outcomes) new
@@ -159,17 +170,18 @@ module _ {X : Type 0} (is_clean is_closed : X → Type 0) (stands_at : X → Mac
         let said = λ (standing : List Command). replay_acknowledged machine command reply standing answers in
         elim (goes_on later carried.stands.ok (step machine command).1 clean at) [
           | inl ended ↦ inl (acknowledged command reply ++ ended.0, (ended.0, refl, answers, ended.1), subst (stands_at new) (sym (said ended.0)) ended.2)
-          | inr ended ↦ inr (
-            acknowledged command reply ++ ended.0,
-            acknowledged command reply ++ ended.1,
-            (ended.0, refl, answers, ended.2),
-            (ended.1, refl, answers, ended.3),
-            (
-              ended.4.0,
-              subst (λ m. leaves new m (replay machine (acknowledged command reply ++ ended.1)) ended.4.0) (sym (said ended.0))
-                  (subst (λ m. leaves new (replay (step machine command).1 ended.0) m ended.4.0) (sym (said ended.1)) ended.4.1),
-            ),
-          )
+          | inr ended ↦
+              let at_both : (P : Machine → Machine → Type 0) → P (replay (step machine command).1 ended.0) (replay (step machine command).1 ended.1)
+              → P (replay machine (acknowledged command reply ++ ended.0)) (replay machine (acknowledged command reply ++ ended.1)) =
+              λ P so. subst (λ m. P m (replay machine (acknowledged command reply ++ ended.1))) (sym (said ended.0))
+              (subst (λ m. P (replay (step machine command).1 ended.0) m) (sym (said ended.1)) so) in
+              inr (
+                acknowledged command reply ++ ended.0,
+                acknowledged command reply ++ ended.1,
+                (ended.0, refl, answers, at_both (λ one other. LeavesStanding (leaves new one other) (step machine command).1 commands outcomes ended.0) ended.2),
+                (ended.1, refl, answers, at_both (λ one other. LeavesStanding (leaves new one other) (step machine command).1 commands outcomes ended.1) ended.3),
+                (ended.4.0, at_both (λ one other. leaves new one other ended.4.0) ended.4.1),
+              )
         ]
 
     -- one that is refused
@@ -178,12 +190,12 @@ module _ {X : Type 0} (is_clean is_closed : X → Type 0) (stands_at : X → Mac
     led_refused refusal outcomes new on other carried later machine clean stands =
         let (is, at) = carried.refused machine (led_clean later clean) stands other on in
         elim (goes_on later (carried.stands.opens on other) machine clean at) [
-          | inl ended ↦ inl (ended.0, refused_stands (fails_for_some leaves) machine command commands refusal outcomes ended.0 on other is ended.1, ended.2)
+          | inl ended ↦ inl (ended.0, refused_stands never_fails machine command commands refusal outcomes ended.0 on other is ended.1, ended.2)
           | inr ended ↦ inr (
             ended.0,
             ended.1,
-            refused_stands (fails_for_some leaves) machine command commands refusal outcomes ended.0 on other is ended.2,
-            refused_stands (fails_for_some leaves) machine command commands refusal outcomes ended.1 on other is ended.3,
+            refused_stands (leaves new (replay machine ended.0) (replay machine ended.1)) machine command commands refusal outcomes ended.0 on other is ended.2,
+            refused_stands (leaves new (replay machine ended.0) (replay machine ended.1)) machine command commands refusal outcomes ended.1 on other is ended.3,
             ended.4,
           )
         ]
@@ -211,14 +223,15 @@ module _ {X : Type 0} (is_clean is_closed : X → Type 0) (stands_at : X → Mac
     led_failed fault outcomes new carried later machine clean stands =
         let left = carried.store machine (led_clean later clean) stands fault refl in
         let rest = goes_shut later (carried.stands.ends refl) in
-        let failed : fails_for_some leaves fault = (mid, machine, (step machine command).1, left) in
         let doubt = in_doubt machine command in
+        let failed : leaves new machine (replay machine doubt.0) fault =
+        subst (λ x. leaves x machine (replay machine doubt.0) fault) (sym rest.1) (subst (λ m. leaves mid machine m fault) (sym doubt.2) left) in
         inr (
           [],
           doubt.0,
           (failed, rest.0, inl refl),
           (failed, rest.0, doubt.1),
-          (fault, subst (λ x. leaves x machine (replay machine doubt.0) fault) (sym rest.1) (subst (λ m. leaves mid machine m fault) (sym doubt.2) left)),
+          (fault, failed),
         )
 
     led_err : (refusal : Refusal) (outcomes : List Outcome) (new : X) → Carried command (Err refusal) old mid → Led commands outcomes mid new

@@ -6,7 +6,9 @@ use Rattle.std.specs.List.{AllZip}
 use Rattle.sqlite_trees.specs.declared.store.Store.{Ghosts}
 use Rattle.sqlite.specs.Held.{Held, state}
 use Rattle.sqlite.specs.State.{State, HasCleanDisk}
+use Rattle.deb_control.specs.declared.fault.ControlFault.{ControlFault}
 use Rattle.deb_control.specs.FeedState.{FeedState}
+use Rattle.deb_text.specs.Lists.{IsIn}
 use Rattle.deb_text.specs.Options.{first_some}
 use Rattle.wb_states.specs.declared.command.Part.{Part}
 use Rattle.wb_states.specs.declared.refusal.Refusal.{Refusal}
@@ -21,8 +23,8 @@ use Rattle.wb_step.specs.Step.{Outcome}
 use Rattle.wb_step.proofs.InvariantLemmas.{step-keeps}
 use Rattle.wb_archive.specs.declared.merge.PartList.{PartList}
 use Rattle.wb_archive.specs.declared.merge_from.ArchList.{ArchList}
-use Rattle.wb_archive.specs.Readers.{IsFeedOf, IsListOf, IsMergeOf, MayLeave, archs_refusal, has_bad_arch, has_repeated_arch}
-use Rattle.wb_archive.proofs.ReaderLemmas.{names-refused, texts-step}
+use Rattle.wb_archive.specs.Readers.{IsFeedOf, IsListOf, IsMergeOf, IsPartReadFault, IsReadFault, MayLeave, archs_refusal, has_bad_arch, has_repeated_arch}
+use Rattle.wb_archive.proofs.ReaderLemmas.{names-refused, texts-more, texts-step}
 use Rattle.wb_store.specs.Settled.{IsBackAt, LeavesEither}
 use Rattle.wb_store.proofs.SettledLemmas.{settled_back}
 use Rattle.wb_office.specs.declared.answer.Failure.{Failure}
@@ -35,15 +37,15 @@ use Rattle.wb_office.specs.AppliesLists.{AppliesLists, AreListsApplied, AreLists
 use Rattle.wb_office.specs.Failed.{HasFailed}
 use Rattle.wb_office.specs.ListAnswers.{AreListsLeft, ListsLeaveAs, RespondsLists}
 use Rattle.wb_office.specs.Standing.{Knows, LeavesOne, StandsAt}
-use Rattle.wb_office.proofs.ApplyLemmas.{at_err, either_of, if_err, none_opens, not_closed_by, open_or_shut, same_err, settled_at, stays_shut}
+use Rattle.wb_office.proofs.ApplyLemmas.{at_err, either_of, if_err, none_opens, not_closed_by, office_over, open_or_shut, same_err, settled_at, stays_shut}
 
 -- ---- the state after a merge
 
 -- a merge of what readers give leaves a consistent office consistent
 merge_keeps : {R : Type 0} {remaining : R → Option (List ℕ)} {sources : R} {lists : List (ArchList R)} {machine : Machine} {outcome : Outcome} → IsConsistent machine
     → IsMergeOf remaining sources lists machine outcome → IsConsistent outcome.1
-merge_keeps {machine = machine} {outcome = outcome} consistent one =
-    let s = texts-step one.text one.parts machine outcome one.answers in
+merge_keeps {remaining = remaining} {sources = sources} {lists = lists} {machine = machine} {outcome = outcome} consistent one =
+    let s = texts-step (IsReadFault remaining sources) (IsPartReadFault remaining lists) one.text one.parts machine outcome one.answers in
     subst IsConsistent (sym s.left) (step-keeps machine (Merge one.text s.others) tt consistent)
 
 -- the names of the architectures are refused neither for want of memory nor for the store
@@ -226,9 +228,27 @@ module _ {R : Type 0} (remaining : R → Option (List ℕ)) where
   feeds_known machine (list ∷ lists) [] zip = absurd zip
   feeds_known machine (list ∷ lists) (feed ∷ feeds) zip = (record { arch = zip.0.arch; words = zip.0.words; packages = zip.0.packages }, feeds_known machine lists feeds zip.1)
 
+  -- a list is among them
+  in_known : (list : ArchList R) (lists : List (ArchList R)) → IsIn list lists → IsIn (record { arch = list.arch; packages = remaining list.packages }) (known_of remaining lists)
+  in_known list [] there = absurd there
+  in_known list (other ∷ lists) (inl is) = inl (ap (λ (l : ArchList R). record { arch = l.arch; packages = remaining l.packages }) is)
+  in_known list (other ∷ lists) (inr there) = inr (in_known list lists there)
+
+  -- a list that could not be read on is one of them
+  fault_known : (lists : List (ArchList R)) (of : Part) (fault : ControlFault) → IsPartReadFault remaining lists of fault
+      → IsPartReadFault (λ (known : Option (List ℕ)). known) (known_of remaining lists) of fault
+  fault_known lists of fault broke = (record { arch = broke.0.arch; packages = remaining broke.0.packages }, in_known broke.0 lists broke.1, broke.2, broke.3)
+
   module _ (sources : R) (lists : List (ArchList R)) (machine : Machine) where
     merge_known : {outcome : Outcome} → IsMergeOf remaining sources lists machine outcome → IsMergeOf (λ known. known) (remaining sources) (known_of remaining lists) machine outcome
-    merge_known one = record { text = one.text; is = one.is; parts = one.parts; are = parts_known lists one.parts one.are; answers = one.answers }
+    merge_known {outcome} one = record {
+      text = one.text;
+      is = one.is;
+      parts = one.parts;
+      are = parts_known lists one.parts one.are;
+      answers = texts-more (IsReadFault remaining sources) (IsReadFault remaining sources) (IsPartReadFault remaining lists)
+          (IsPartReadFault (λ (known : Option (List ℕ)). known) (known_of remaining lists)) (λ fault broke. broke) (fault_known lists) one.text one.parts machine outcome one.answers;
+    }
 
     leaves_known : (s : State) (failure : CarryError) → ListsLeaveAs remaining sources lists machine s failure
         → ListsLeaveAs (λ known. known) (remaining sources) (known_of remaining lists) machine s failure
@@ -279,15 +299,15 @@ module _ {S R : Type 0} {g : Ghosts S} {remaining : R → Option (List ℕ)} {so
   lists_closed is = open_or_shut was_closed (λ closed. ((h.shut closed).1, still closed)) (λ opened. absurd ((h.stands opened).never is))
 
   -- the store failed with the fault that is told
-  lists_failed : (fault : StoreFault) → r ≡ Err (Store fault) → was_closed ≡ false → HasFailed g fault new
+  lists_failed : (fault : StoreFault) → r ≡ Err (Store fault) → was_closed ≡ false → HasFailed g machine fault new
   lists_failed fault is opened =
       let why = at_err _ r (Store fault) is (h.cause clean machine stands opened) in
       let same : new ≡ why.1 = why.6 (λ none. store_is_no_memory none) in
       inr (inr (
-        machine,
         remaining sources,
         known_of remaining lists,
         old,
+        office_over g stands opened,
         why.0,
         left_known remaining sources lists machine g old new why.0
             (subst (λ (held : Held S). AreListsLeft g remaining sources lists machine old held why.0) (sym same) why.2),
@@ -295,7 +315,7 @@ module _ {S R : Type 0} {g : Ghosts S} {remaining : R → Option (List ℕ)} {so
       ))
 
   pub lists_store : (fault : StoreFault) → r ≡ Err (Store fault) → (after : Machine)
-      × (MayLeave remaining sources lists machine after × (LeavesOne machine after is_closed (state g new) × HasFailed g fault new))
+      × (MayLeave remaining sources lists machine after × (LeavesOne machine after is_closed (state g new) × HasFailed g machine fault new))
   lists_store fault is = open_or_shut was_closed
       (λ closed. absurd (store_is_not_closed (sym is ∙ (h.shut closed).0)))
       (λ opened. let left = refused_with (Store fault) is opened in

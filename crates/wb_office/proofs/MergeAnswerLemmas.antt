@@ -31,7 +31,7 @@ use Rattle.wb_step.proofs.PassLemmas.{when-None}
 use Rattle.wb_step.proofs.StepLemmas.{step-refused}
 use Rattle.wb_step.proofs.WantLemmas.{want-text}
 use Rattle.wb_archive.specs.declared.merge.PartList.{PartList}
-use Rattle.wb_archive.specs.Merges.{BeginsAt, IsPartOf}
+use Rattle.wb_archive.specs.Merges.{BeginsAt, BreaksFor, IsPartOf}
 use Rattle.wb_archive.specs.Readers.{refusal_by}
 use Rattle.wb_archive.proofs.KnownListLemmas.{begins-unread, merge-known, parts-unread}
 use Rattle.wb_archive.proofs.MergeLemmas.{parts-are}
@@ -67,8 +67,9 @@ module _ (sources : ReaderState) (lists : List (PartList ReaderState)) (text : L
   texts_done : (replies : List PartReply) (last : Records) → AreListsDone Stands NeverBreaks sources lists machine replies last → AreTextsDone text parts machine replies last
   texts_done replies last done =
       let merge = merge-known Stands NeverBreaks machine (λ records. records ≡ last) sources lists machine.records replies text parts begins zip done in
-      let both = parts-are NeverBreaks (λ reader fault none. none) machine text parts machine.records merge.last replies merge.done in
-      record { replies_are = both.0; last_is = sym merge.holds ∙ both.1 }
+      let both = parts-are (NeverBreaks sources) (BreaksFor NeverBreaks lists) (λ fault none. none) (λ of fault none. none.3) machine text merge.bad parts machine.records merge.done.last replies
+      merge.read merge.done.done in
+      record { replies_are = both.0; last_is = sym merge.done.holds ∙ both.1 }
 
 -- ---- what more is known of a merge that was carried out, or was not
 

@@ -152,6 +152,8 @@ done_of : {R : Type 0} (MayStand : R → ReaderState → Type 0) (Breaks : R →
 done_of MayStand Breaks sources parts machine replies made = record {
   text = made.text;
   begins = made.begins;
+  bad = made.bad;
+  read = made.read;
   merged = record {
     given = made.merged.given;
     are = made.merged.are;

@@ -1,6 +1,7 @@
 pub mod Answers
 pub mod Applies
 pub mod AppliesLists
+pub mod Asked
 pub mod Asks
 pub mod Carried
 pub mod Changed

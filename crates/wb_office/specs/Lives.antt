@@ -37,8 +37,8 @@ AreClosed (command ∷ commands) (outcome ∷ outcomes) = (outcome ≡ Err Close
 
 -- these commands stand after a life that began at this state, in their order, and each command has one outcome: each that was acknowledged stands, and no other,
 -- except that the one at which the store failed may stand or not, if the step accepts it there. Each reply, and each refusal of the state, is that of the step after
--- the commands before it. The store failed with each fault that is told. Each command after a failure is answered that the office is closed; so is each after a
--- lack of memory that closed it; and no other. There may be no memory only for a command that no check without memory refuses
+-- the commands before it. Each fault that is told is one of those with which the store failed. Each command after such a fault is answered that the office is
+-- closed; so may be all after a lack of memory, and no other. There may be no memory only for a command that no check without memory refuses
 abbrev pub LeavesStanding : (StoreFault → Type 0) → Machine → List Command → List Outcome → List Command → Type 0
 LeavesStanding Failed machine [] [] standing = standing ≡ []
 LeavesStanding Failed machine [] (outcome ∷ outcomes) standing = ⊥
@@ -66,20 +66,20 @@ IsSure (Err refusal) = (fault : StoreFault) → refusal ≢ Store fault
 abbrev pub leaves_for_some : {X : Type 0} → (X → Machine → Machine → StoreFault → Type 0) → X → Machine → Machine → Type 0
 leaves_for_some leaves office before after = (fault : StoreFault) × leaves office before after fault
 
--- the store of some office failed with this fault
-abbrev pub fails_for_some : {X : Type 0} → (X → Machine → Machine → StoreFault → Type 0) → StoreFault → Type 0
-fails_for_some {X} leaves fault = (office : X) × (before : Machine) × (after : Machine) × leaves office before after fault
+-- the store of some office, of which a crash leaves one of these two states, failed with this fault
+abbrev pub fails_for_some : {X : Type 0} → (X → Machine → Machine → StoreFault → Type 0) → Machine → Machine → StoreFault → Type 0
+fails_for_some {X} leaves before after fault = (office : X) × leaves office before after fault
 
--- an office that stood at this state stands at the one after the commands that a life left standing; or it is closed, and a crash leaves the one or the
--- other of two such states
+-- no fault
+abbrev pub never_fails : StoreFault → Type 0
+never_fails fault = ⊥
+
+-- an office that stood at this state stands at the one after the commands that a life left standing, and no fault was told; or it is closed, a crash leaves the
+-- one or the other of two such states, and each fault that was told is one with which the store of this office failed
 abbrev pub EndsLife : {X : Type 0} → (X → Machine → Type 0) → (X → Machine → Machine → StoreFault → Type 0) → Machine → List Command → List Outcome → X → Type 0
 EndsLife stands_at leaves machine commands outcomes new =
-    ((standing : List Command) × LeavesStanding (fails_for_some leaves) machine commands outcomes standing × stands_at new (replay machine standing))
-    ⊎ ((one other : List Command) × LeavesStanding (fails_for_some leaves) machine commands outcomes one × LeavesStanding (fails_for_some leaves) machine commands outcomes other
+    ((standing : List Command) × LeavesStanding never_fails machine commands outcomes standing × stands_at new (replay machine standing))
+    ⊎ ((one other : List Command)
+    × LeavesStanding (leaves new (replay machine one) (replay machine other)) machine commands outcomes one
+    × LeavesStanding (leaves new (replay machine one) (replay machine other)) machine commands outcomes other
     × leaves_for_some leaves new (replay machine one) (replay machine other))
-
--- an office carried out commands, with these outcomes after those before
-abbrev pub IsLedThrough : {X : Type 0} → (X → Type 0) → (X → Machine → Type 0) → (X → Machine → Machine → StoreFault → Type 0) → List Command → List Outcome → List Outcome → X → X → Type 0
-IsLedThrough is_clean stands_at leaves commands before after old new =
-    (outcomes : List Outcome) × (after ≡ before ++ outcomes) × (is_clean new → is_clean old)
-    × ((machine : Machine) → is_clean new → stands_at old machine → EndsLife stands_at leaves machine commands outcomes new)

@@ -1,10 +1,10 @@
 //! The lives of an office over files, one after another.
-ghost use Rattle.std.specs.Prelude.{◌≡◌, ◌+◌, ◌++◌, ◌∷◌, [], ◌<◌, ◌≤◌, length, vec_capacity, vec_len, IfOk, IfErr, IfNone, IfSome, IsTrue};
+ghost use Rattle.std.specs.Prelude.{◌≡◌, ◌+◌, ◌++◌, ◌∷◌, [], ◌<◌, ◌≤◌, length, vec_capacity, vec_len, IfOk, IfErr, IsSomeAnd, IsTrue};
 ghost use Rattle.wb_states.specs.declared.store_fault.StoreFault.TheVariants.{Memory};
-ghost use Rattle.wb_office.specs.History.{AreBack, HasLived, IsLivedOnce};
+ghost use Rattle.wb_office.specs.History.{AreLivedInTurn, HasLived, IsCutAfter, IsLivedOnce};
 
 use crate::commands::Outcome;
-use crate::life::{Lived, SessionEnd, open_and_live};
+use crate::life::open_and_live;
 use crate::power::{Power, cut_power};
 use deb_text::Items;
 use sqlite::{Files, Options};
@@ -12,6 +12,7 @@ use sqlite_disk::Disk;
 use std::alloc::Global;
 use wb_rows::TableRow;
 use wb_states::{Command, StoreFault};
+use wb_store::RefusedFiles;
 
 /// What the opening of a life finds, and what the life is answered.
 #[derive(Drop)]
@@ -32,18 +33,19 @@ pub enum Found {
 /// What lives of an office find and leave.
 #[derive(Drop)]
 pub struct LivesEnd<D: Disk + Drop> {
-    /// What was found, life by life, up to the first whose opening was refused or whose files were not given back.
+    /// What was found, life by life, up to the first whose opening was refused or whose office was not closed.
     pub found: Items<Found>,
-    /// The files after the last power cut, those that were handed in if there is no life; none if an opening was refused or
-    /// files were not given back.
+    /// The files after the last power cut, those that were handed in if there is no life. They are always there, also if an
+    /// opening was refused or an office was not closed.
     pub files: Option<Files<D>>,
 }
 
 /// Has an office live once for each list of commands: it is opened, carries out the commands as in
 /// [`session`](crate::session), and is closed, and then the power is cut. So the next life begins with files that a crash
 /// may leave, and there have to be as many cuts [left](Power::left) as there are lives. The lives end with the first whose
-/// opening is refused or whose files are not given back, and what was found is told all the same. The room for what is found
-/// is taken first: the error is `Memory` alone, and then nothing was opened and no power was cut (this project's own).
+/// opening is refused or whose office is not closed; what was found is told all the same, the power is cut, and the files are
+/// handed back. The room for what is found is taken first: the error is `Memory` alone, and then nothing was opened and no power
+/// was cut (this project's own).
 pub fn lives<D: Disk + Drop, P: Power<D>>(
     alloc: Global,
     files: Files<D>,
@@ -54,17 +56,17 @@ pub fn lives<D: Disk + Drop, P: Power<D>>(
     requires log { IsTrue (D.Disk.is_usable files.log) }
     requires db { IsTrue (D.Disk.is_usable files.db) }
     requires cuts { length lives.now ≤ P.cuts_left power.old }
-    ensures lived { IfOk result (λ end. HasLived D.Disk files lives.now end.found end.files) }
-    ensures cut { IfOk result (λ end. IfSome end.files (λ _. P.cuts_left power.old ≡ P.cuts_left power.new + length end.found)) }
-    ensures uncut { IfOk result (λ end. IfNone end.files
-        (P.cuts_left power.old + 1 ≡ P.cuts_left power.new + length end.found)) }
+    ensures in_turn { IfOk result (λ end. IsSomeAnd end.files (λ back. AreLivedInTurn D.Disk P.hands_back files power.old
+        lives.now end.found back power.new)) }
+    ensures lived { IfOk result (λ end. IsSomeAnd end.files (HasLived D.Disk files lives.now end.found)) }
+    ensures cut { IfOk result (λ end. P.cuts_left power.old ≡ P.cuts_left power.new + length end.found) }
     ensures refused { IfErr result (λ fault. (fault ≡ Memory) × (P.cuts_left power.new ≡ P.cuts_left power.old)) }
 {
     let mut found = Vec::with_capacity(alloc, lives.len())?;
     let files = live_all(alloc, files, options, power, lives, &mut found);
     Ok(LivesEnd {
         found: Items::from(found),
-        files,
+        files: Some(files),
     })
 }
 
@@ -76,77 +78,72 @@ fn live_all<D: Disk + Drop, P: Power<D>>(
     power: &mut P,
     lives: &[Items<Command>],
     found: &mut Vec<Found>,
-) -> Option<Files<D>>
+) -> Files<D>
     requires log { IsTrue (D.Disk.is_usable files.log) }
     requires db { IsTrue (D.Disk.is_usable files.db) }
     requires cuts { length lives.now ≤ P.cuts_left power.old }
     requires room { length lives.now ≤ vec_capacity found.old }
     requires empty { found.old.items ≡ [] }
-    ensures lived { HasLived D.Disk files lives.now found.new.items result }
-    ensures cut { IfSome result (λ _. P.cuts_left power.old ≡ P.cuts_left power.new + length found.new.items) }
-    ensures uncut { IfNone result (P.cuts_left power.old + 1 ≡ P.cuts_left power.new + length found.new.items) }
+    ensures in_turn { AreLivedInTurn D.Disk P.hands_back files power.old lives.now found.new.items result power.new }
+    ensures cut { P.cuts_left power.old ≡ P.cuts_left power.new + length found.new.items }
 {
     let mut current = files;
     for commands in lives {
-        let (one, back) = live_once(alloc, current, options, power, commands.as_slice());
+        let (one, back, goes_on) = live_once(alloc, current, options, power, commands.as_slice());
         keep(found, one);
-        match back {
-            Some(files) => current = files,
-            None => return None,
+        if !goes_on {
+            return back;
         }
+        current = back;
     }
-    Some(current)
+    current
 }
 
-/// Has an office live once, and cuts the power after it, if its files were given back.
+/// Has an office live once, and cuts the power after it. Lives do not go on if its opening was refused or it was not closed.
 fn live_once<D: Disk + Drop, P: Power<D>>(
     alloc: Global,
     files: Files<D>,
     options: Options,
     power: &mut P,
     commands: &[Command],
-) -> (Found, Option<Files<D>>)
+) -> (Found, Files<D>, bool)
     requires log { IsTrue (D.Disk.is_usable files.log) }
     requires db { IsTrue (D.Disk.is_usable files.db) }
     requires some { 0 < P.cuts_left power.old }
-    ensures lived { IsLivedOnce D.Disk files commands.now result.0 result.1 }
-    ensures cut { IfSome result.1 (λ _. P.cuts_left power.old ≡ P.cuts_left power.new + 1) }
-    ensures uncut { IfNone result.1 (P.cuts_left power.new ≡ P.cuts_left power.old) }
-    ensures usable { IfSome result.1 (λ back. IsTrue (D.Disk.is_usable back.log) × IsTrue (D.Disk.is_usable back.db)) }
+    ensures lived { IsLivedOnce D.Disk P.hands_back files power.old commands.now result.0 result.2 result.1 power.new }
+    ensures cut { P.cuts_left power.old ≡ P.cuts_left power.new + 1 }
+    ensures usable { IsTrue (D.Disk.is_usable result.1.log) × IsTrue (D.Disk.is_usable result.1.db) }
 {
     match open_and_live(alloc, files, options, commands) {
-        Ok(
-            Lived {
-                accepted,
-                rows,
-                end: SessionEnd { outcomes, files },
-            },
-        ) => (
-            Found::Opened {
-                accepted,
-                rows,
-                outcomes,
-            },
-            cut_after(power, files),
-        ),
-        Err(fault) => (Found::Refused(fault), None),
+        Ok(life) => {
+            let (back, goes_on) = cut_after(power, life.given);
+            let found = Found::Opened {
+                accepted: life.accepted,
+                rows: life.rows,
+                outcomes: life.outcomes,
+            };
+            (found, back, goes_on)
+        }
+        Err(refused) => {
+            let back = cut_power(power, refused.files);
+            (Found::Refused(refused.fault), back, false)
+        }
     }
 }
 
-/// Cuts the power, if there are files.
+/// Cuts the power after a life, and says whether lives go on: its office was closed or given up.
 fn cut_after<D: Disk + Drop, P: Power<D>>(
     power: &mut P,
-    files: Option<Files<D>>,
-) -> Option<Files<D>>
+    given: Result<Files<D>, RefusedFiles<D>>,
+) -> (Files<D>, bool)
     requires some { 0 < P.cuts_left power.old }
-    ensures back { AreBack D.Disk files result }
-    ensures cut { IfSome result (λ _. P.cuts_left power.old ≡ P.cuts_left power.new + 1) }
-    ensures uncut { IfNone result (P.cuts_left power.new ≡ P.cuts_left power.old) }
-    ensures usable { IfSome result (λ back. IsTrue (D.Disk.is_usable back.log) × IsTrue (D.Disk.is_usable back.db)) }
+    ensures back { IsCutAfter D.Disk P.hands_back given power.old result.1 result.0 power.new }
+    ensures cut { P.cuts_left power.old ≡ P.cuts_left power.new + 1 }
+    ensures usable { IsTrue (D.Disk.is_usable result.0.log) × IsTrue (D.Disk.is_usable result.0.db) }
 {
-    match files {
-        Some(left) => Some(cut_power(power, left)),
-        None => None,
+    match given {
+        Ok(left) => (cut_power(power, left), true),
+        Err(refused) => (cut_power(power, refused.files), false),
     }
 }
 

@@ -28,8 +28,8 @@ pub fn takes_rise_over_lives<D: Disk>()
 /// So files that such a life leaves hold one state.
 /// Source: this project's own.
 pub fn one_list_stands_without_doubt<D: Disk>()
-    ensures same { (machine : Machine) (commands : List Asked) (outcomes : List Outcome) (one other : List Asked)
+    ensures same { (machine before after : Machine) (commands : List Asked) (outcomes : List Outcome) (one other : List Asked)
         → AllByRecursion IsSure outcomes
-        → LeavesStanding (HasFailedWith D.Disk) machine commands outcomes one
-        → LeavesStanding (HasFailedWith D.Disk) machine commands outcomes other → one ≡ other }
+        → LeavesStanding (HasFailedWith D.Disk before after) machine commands outcomes one
+        → LeavesStanding (HasFailedWith D.Disk before after) machine commands outcomes other → one ≡ other }
 {}

@@ -1,9 +1,10 @@
 //! One life of an office over files.
-ghost use Rattle.std.specs.Prelude.{◌≡◌, ◌⊎◌, ◌≤◌, [], false, length, vec_capacity, vec_len, IfOk, IfErr, IfSome, IsTrue};
+ghost use Rattle.std.specs.Prelude.{◌≡◌, ◌⊎◌, ◌≤◌, [], false, length, vec_capacity, IfOk, IfErr, IfSome, IsTrue};
 ghost use Rattle.sqlite_wal.specs.Reads.{AreClean};
 ghost use Rattle.wb_states.specs.Machine.{Machine};
 ghost use Rattle.wb_states.specs.declared.store_fault.StoreFault.TheVariants.{Memory};
-ghost use Rattle.wb_office.specs.Files.{GivesUp, HoldOne, IsFaultOfLife, IsFaultOfOpening, IsLife, IsSession, LeavesLife, LivesOn};
+ghost use Rattle.wb_store.specs.Files.{IsFaultOfOpening};
+ghost use Rattle.wb_office.specs.Files.{GivesUp, HoldOne, IsFaultOfLife, IsGivenUp, IsLife, IsSession, LeavesLife, LivesFound, LivesOn};
 
 use crate::Office;
 use crate::commands::{Outcome, carry_out_all};
@@ -14,13 +15,14 @@ use std::alloc::Global;
 use wb_rows::TableRow;
 use wb_states::{Command, StoreFault};
 use wb_step::CarryOut;
+use wb_store::RefusedFiles;
 
 /// What a life of an office leaves.
 #[derive(Drop)]
 pub struct SessionEnd<D: Disk + Drop> {
     /// What each command was answered.
     pub outcomes: Items<Outcome>,
-    /// The files. None if the office was open and its closing failed, which gives none back.
+    /// The files. None if the office was open and its closing failed, which drops them.
     pub files: Option<Files<D>>,
 }
 
@@ -29,7 +31,16 @@ pub struct SessionEnd<D: Disk + Drop> {
 pub(crate) struct Lived<D: Disk + Drop> {
     pub(crate) accepted: u64,
     pub(crate) rows: Items<TableRow>,
-    pub(crate) end: SessionEnd<D>,
+    pub(crate) outcomes: Items<Outcome>,
+    /// The files, with a fault if the office was open and its closing failed.
+    pub(crate) given: Result<Files<D>, RefusedFiles<D>>,
+}
+
+/// What the commands of a life were answered, and the files after it.
+#[derive(Drop)]
+struct Ended<D: Disk + Drop> {
+    outcomes: Items<Outcome>,
+    given: Result<Files<D>, RefusedFiles<D>>,
 }
 
 /// Opens the office that the files hold, has it carry out the commands, one after another, and closes it; one that a fault
@@ -52,32 +63,69 @@ pub fn session<D: Disk + Drop>(
 {
     let outcomes = Vec::with_capacity(alloc, commands.len())?;
     let office = Office::open(alloc, files, options)?;
-    Ok(live(office, commands, outcomes))
+    let ended = live(office, commands, outcomes);
+    Ok(SessionEnd {
+        outcomes: ended.outcomes,
+        files: ended.given.ok(),
+    })
 }
 
 /// The same, with what the opening finds: how many commands were accepted, and each row of the office's tables. The faults
-/// are also those of the rows.
+/// are also those of the rows. After each the files are handed back.
 pub(crate) fn open_and_live<D: Disk + Drop>(
     alloc: Global,
     files: Files<D>,
     options: Options,
     commands: &[Command],
-) -> Result<Lived<D>, StoreFault>
+) -> Result<Lived<D>, RefusedFiles<D>>
     requires log { IsTrue (D.Disk.is_usable files.log) }
     requires db { IsTrue (D.Disk.is_usable files.db) }
-    ensures lived { IfOk result (λ life. IsLife D.Disk files commands.now life.accepted life.rows
-        life.end.outcomes life.end.files) }
-    ensures refused { IfErr result (IsFaultOfLife D.Disk files) }
+    ensures lived { IfOk result (λ life. IsLife D.Disk files commands.now life.accepted life.rows life.outcomes life.given) }
+    ensures refused { IfErr result (λ refused. IsFaultOfLife D.Disk files refused.fault refused.files) }
 {
-    let outcomes = Vec::with_capacity(alloc, commands.len())?;
-    let mut office = Office::open(alloc, files, options)?;
+    match Vec::with_capacity(alloc, commands.len()) {
+        Ok(outcomes) => match Office::try_open(alloc, files, options) {
+            Ok(office) => live_on(office, commands, outcomes),
+            Err(refused) => Err(refused),
+        },
+        Err(_) => Err(RefusedFiles {
+            fault: StoreFault::Memory,
+            files,
+        }),
+    }
+}
+
+/// Finds what an office that was opened shows, has it carry out the commands, and closes it; if its rows are not shown, it is
+/// given up. There is room for the answers.
+fn live_on<D: Disk + Drop>(
+    office: Office<FileStore<D>>,
+    commands: &[Command],
+    outcomes: Vec<Outcome>,
+) -> Result<Lived<D>, RefusedFiles<D>>
+    requires opened { office.is_closed ≡ false }
+    requires empty { outcomes.items ≡ [] }
+    requires room { length commands.now ≤ vec_capacity outcomes }
+    ensures lived { IfOk result (λ life. LivesFound D.Disk office commands.now life.accepted life.rows life.outcomes
+        life.given) }
+    ensures unshown { IfErr result (λ refused. IsGivenUp D.Disk office refused.fault refused.files) }
+{
+    let mut office = office;
     let accepted = office.accepted_count();
-    let rows = office.rows()?;
-    Ok(Lived {
-        accepted,
-        rows,
-        end: live(office, commands, outcomes),
-    })
+    match office.rows() {
+        Ok(rows) => {
+            let ended = live(office, commands, outcomes);
+            Ok(Lived {
+                accepted,
+                rows,
+                outcomes: ended.outcomes,
+                given: ended.given,
+            })
+        }
+        Err(fault) => Err(RefusedFiles {
+            fault,
+            files: office.surrender(),
+        }),
+    }
 }
 
 /// Has an open office carry out the commands, and closes it. There is room for the answers.
@@ -85,27 +133,27 @@ fn live<D: Disk + Drop>(
     office: Office<FileStore<D>>,
     commands: &[Command],
     outcomes: Vec<Outcome>,
-) -> SessionEnd<D>
+) -> Ended<D>
     requires opened { office.is_closed ≡ false }
     requires empty { outcomes.items ≡ [] }
     requires room { length commands.now ≤ vec_capacity outcomes }
-    ensures lives { LivesOn D.Disk office commands.now result.outcomes result.files }
+    ensures lives { LivesOn D.Disk office commands.now result.outcomes result.given }
 {
     let mut office = office;
     let mut outcomes = outcomes;
     carry_out_all(&mut office, commands, &mut outcomes);
-    SessionEnd {
+    Ended {
         outcomes: Items::from(outcomes),
-        files: give_up(office),
+        given: give_up(office),
     }
 }
 
 /// Closes an office, and hands out its files; one that a fault closed is given up as it is.
-fn give_up<D: Disk + Drop>(office: Office<FileStore<D>>) -> Option<Files<D>>
+fn give_up<D: Disk + Drop>(office: Office<FileStore<D>>) -> Result<Files<D>, RefusedFiles<D>>
     ensures gives_up { GivesUp D.Disk office result }
 {
     if office.closed() {
-        return Some(office.surrender());
+        return Ok(office.surrender());
     }
-    office.close().ok()
+    office.try_close()
 }

@@ -1,22 +1,23 @@
 //! The office over tables: each command is one transaction.
-ghost use Rattle.std.specs.Prelude.{◌≡◌, ◌⊎◌, false, true, None, Err, map, IfOk, IfErr, IsTrue};
+ghost use Rattle.std.specs.Prelude.{◌≡◌, ◌⊎◌, false, true, None, Err, map, IfOk, IfErr, IsErrAnd, IsTrue};
+ghost use Rattle.sqlite.specs.Change.{KeepsRows};
 ghost use Rattle.sqlite.specs.Files.{file_state};
 ghost use Rattle.sqlite.specs.Held.{state};
-ghost use Rattle.sqlite.specs.State.{HasCleanDisk};
+ghost use Rattle.sqlite.specs.State.{HasCleanDisk, Survives};
 ghost use Rattle.sqlite_wal.specs.Reads.{AreClean};
 ghost use Rattle.wb_states.specs.Machine.{Machine, empty_office};
 ghost use Rattle.wb_states.specs.declared.store_fault.StoreFault.TheVariants.{NotOffice};
 ghost use Rattle.wb_sql.specs.Settled.{LeaveOnly};
-ghost use Rattle.wb_store.specs.Settled.{AreSettledAt, StandsForTrees};
+ghost use Rattle.wb_store.specs.Settled.{AreSettledAt, LeavesEither, StandsForTrees};
 ghost use Rattle.wb_sql.specs.Among.{HasOffice, LacksOffice};
 ghost use Rattle.wb_sql.specs.Format.{HasFormatColumn};
 ghost use Rattle.wb_sql.specs.Upgrading.{HasFirstOffice};
 ghost use Rattle.wb_store.specs.Checks.{HasGoodRows, HasGoodRowsIn};
 ghost use Rattle.wb_store.specs.Formats.{IsNewer};
-ghost use Rattle.wb_store.specs.Opening.{HasNoRowsLeft, HasNoScratchRows, IsRefusedFrom};
+ghost use Rattle.wb_store.specs.Opening.{HasNoRowsLeft, HasNoScratchRows, IsRefusedFrom, PreparesOffice};
 ghost use Rattle.wb_store.specs.declared.format.Format.TheVariants.{One};
-ghost use Rattle.wb_store.specs.Files.{AreFoundAt, AreNew, FailsToOpen, IsFaultOfClosing, IsRefusedOver};
-ghost use Rattle.wb_store.specs.Files.{LeaveOffice};
+ghost use Rattle.wb_store.specs.Files.{AreFoundAt, AreNew, AreRefused, AreUnclosed};
+ghost use Rattle.wb_store.specs.Files.{IsFaultOfClosing, IsFaultOfOpening, LeaveOffice};
 ghost use Rattle.wb_store.specs.Merging.{no_merge};
 ghost use Rattle.wb_store.specs.Preparing.{IsFoundAt};
 ghost use Rattle.wb_store.specs.TableRows.{FailsToShowOne, table_rows};
@@ -43,7 +44,7 @@ use wb_archive::{ArchList, MergeFrom, check_archs};
 use wb_rows::TableRow;
 use wb_states::{Answer, Command, Query, Refusal, Reply, StoreFault};
 use wb_step::{CarryOut, check_texts};
-use wb_store::Store;
+use wb_store::{RefusedConnection, RefusedFiles, Store};
 
 /// The office, with its state in the tables of a database.
 #[derive(Drop)]
@@ -66,7 +67,47 @@ impl<S: Alter + Drop> Office<S> {
     /// another format than that of the tables; `Damaged` with the table and the first row, counted from 1, that breaks the
     /// rules of an office, or with row 0 if a statement on the table was refused, `Memory`, and `Device` if the disk failed
     /// or is full. After a fault a crash leaves the office as it was found, in the one schema or in the other, or the
-    /// tables of an empty one, and no transaction is under way. A limit of steps of the connection stays (this project's
+    /// tables of an empty one, and no transaction is under way. It hands the connection back then. A limit of steps of the
+    /// connection stays (this project's own).
+    pub fn try_adopt(alloc: Global, conn: Connection<S>) -> Result<Office<S>, RefusedConnection<S>>
+        requires idle { conn.in_transaction ≡ false }
+        ensures opened { IfOk result (λ office. office.is_closed ≡ false) }
+        ensures found { IfOk result (λ office. HasCleanDisk (state S.Store office.store)
+            → (machine : Machine) → IsFoundAt machine (state S.Store conn)
+            → StandsAt machine office.is_closed office.known (state S.Store office.store)) }
+        ensures good { IfOk result (λ office. HasCleanDisk (state S.Store office.store)
+            → HasOffice conn.schema
+            → HasGoodRows (state S.Store conn).now × HasNoRowsLeft (state S.Store conn).now) }
+        ensures good_first { IfOk result (λ office. HasCleanDisk (state S.Store office.store)
+            → HasFirstOffice conn.schema
+            → HasGoodRowsIn One (state S.Store conn).now × HasNoScratchRows (state S.Store conn).now) }
+        ensures known { IfOk result (λ _. LacksOffice conn.schema ⊎ (HasOffice conn.schema ⊎ HasFirstOffice conn.schema)) }
+        ensures newer { IfOk result (λ office. HasCleanDisk (state S.Store office.store)
+            → ¬ IsNewer (state S.Store conn).now) }
+        ensures other { ¬ LacksOffice conn.schema → ¬ HasOffice conn.schema → ¬ HasFormatColumn conn.schema
+            → IsErrAnd result (λ refused. (refused.fault ≡ NotOffice) × (refused.conn ≡ conn)) }
+        ensures others { IfOk result (λ office. HasCleanDisk (state S.Store office.store)
+            → IsTrue (state S.Store conn).is_open → LacksOffice conn.schema
+            → KeepsRows conn.schema.tables (state S.Store conn).now.trees (state S.Store office.store).now.trees) }
+        ensures limit { IfOk result (λ office. office.store.step_limit ≡ conn.step_limit) }
+        ensures clean { IfOk result (λ office. HasCleanDisk (state S.Store office.store) → HasCleanDisk (state S.Store conn)) }
+        ensures refused { IfErr result (λ refused. PreparesOffice S.Store conn refused.conn (Err refused.fault)) }
+    {
+        match Store::try_adopt(conn) {
+            Ok((store, counts)) => Ok(Office {
+                alloc,
+                store,
+                known: Known {
+                    counts,
+                    archs: None,
+                },
+                is_closed: false,
+            }),
+            Err(refused) => Err(refused),
+        }
+    }
+
+    /// Opens the office as [`try_adopt`](Office::try_adopt) does, but drops a connection that it refuses (this project's
     /// own).
     pub fn adopt(alloc: Global, conn: Connection<S>) -> Result<Office<S>, StoreFault>
         requires idle { conn.in_transaction ≡ false }
@@ -85,21 +126,16 @@ impl<S: Alter + Drop> Office<S> {
             → ¬ IsNewer (state S.Store conn).now) }
         ensures other { ¬ LacksOffice conn.schema → ¬ HasOffice conn.schema
             → ¬ HasFormatColumn conn.schema → result ≡ Err NotOffice }
+        ensures others { IfOk result (λ office. HasCleanDisk (state S.Store office.store)
+            → IsTrue (state S.Store conn).is_open → LacksOffice conn.schema
+            → KeepsRows conn.schema.tables (state S.Store conn).now.trees (state S.Store office.store).now.trees) }
         ensures limit { IfOk result (λ office. office.store.step_limit ≡ conn.step_limit) }
         ensures clean { IfOk result (λ office. HasCleanDisk (state S.Store office.store) → HasCleanDisk (state S.Store conn)) }
         ensures refused { IfErr result (IsRefusedFrom S.Store conn) }
     {
-        match Store::adopt(conn) {
-            Ok((store, counts)) => Ok(Office {
-                alloc,
-                store,
-                known: Known {
-                    counts,
-                    archs: None,
-                },
-                is_closed: false,
-            }),
-            Err(fault) => Err(fault),
+        match Office::try_adopt(alloc, conn) {
+            Ok(office) => Ok(office),
+            Err(refused) => Err(refused.fault),
         }
     }
 
@@ -211,6 +247,8 @@ impl<S: Alter + Drop> Office<S> {
             × StandsAt machine self.new.is_closed self.new.known (state S.Store self.new.store)) }
         ensures err { IfErr result (λ fault. HasCleanDisk (state S.Store self.new.store)
             → HasOffice self.old.store.schema → FailsToShowOne S.Store self.old.store self.new.store fault) }
+        ensures survives { Survives (state S.Store self.old.store) (state S.Store self.new.store)
+            (λ _. ¬ HasOffice self.old.store.schema) }
     {
         self.store.rows(self.alloc)
     }
@@ -218,8 +256,43 @@ impl<S: Alter + Drop> Office<S> {
 
 impl<D: Disk + Drop> Office<FileStore<D>> {
     /// Opens the office that two files hold, a database and its log; a database that lacks the office's tables becomes
-    /// that of an empty office. Each row is tested. The faults are those of [`Store::open`] if the files cannot be
-    /// opened as a database, and those of [`adopt`](Office::adopt) (this project's own).
+    /// that of an empty office. Each row is tested. The faults are those of [`Store::try_open`] if the files cannot be
+    /// opened as a database, and those of [`try_adopt`](Office::try_adopt); the files are handed back then, and hold what
+    /// they held (this project's own).
+    pub fn try_open(
+        alloc: Global,
+        files: Files<D>,
+        options: Options,
+    ) -> Result<Office<FileStore<D>>, RefusedFiles<D>>
+        requires log { IsTrue (D.Disk.is_usable files.log) }
+        requires db { IsTrue (D.Disk.is_usable files.db) }
+        ensures opened { IfOk result (λ office. office.is_closed ≡ false) }
+        ensures found { IfOk result (λ office. HasCleanDisk (file_state office.store)
+            → (machine : Machine) → AreFoundAt D.Disk files machine
+            → StandsAt machine office.is_closed office.known (file_state office.store)) }
+        ensures left { IfOk result (λ office. HasCleanDisk (file_state office.store)
+            → (one other : Machine) → LeaveOffice D.Disk files one other
+            → StandsAtOne one other office.is_closed office.known (file_state office.store)) }
+        ensures new { IfOk result (λ office. HasCleanDisk (file_state office.store) → AreNew D.Disk files
+            → StandsAt empty_office office.is_closed office.known (file_state office.store)) }
+        ensures clean { IfOk result (λ office. HasCleanDisk (file_state office.store)
+            → AreClean D.Disk files.log files.db) }
+        ensures unlimited { IfOk result (λ office. office.store.step_limit ≡ None) }
+        ensures refused { IfErr result (λ refused. AreRefused D.Disk files refused.fault refused.files) }
+    {
+        let (store, counts) = Store::try_open(alloc, files, options)?;
+        Ok(Office {
+            alloc,
+            store,
+            known: Known {
+                counts,
+                archs: None,
+            },
+            is_closed: false,
+        })
+    }
+
+    /// Opens the office as [`try_open`](Office::try_open) does, but drops files that it refuses (this project's own).
     pub fn open(
         alloc: Global,
         files: Files<D>,
@@ -239,35 +312,48 @@ impl<D: Disk + Drop> Office<FileStore<D>> {
         ensures clean { IfOk result (λ office. HasCleanDisk (file_state office.store)
             → AreClean D.Disk files.log files.db) }
         ensures unlimited { IfOk result (λ office. office.store.step_limit ≡ None) }
-        ensures refused { IfErr result (λ fault. FailsToOpen D.Disk files fault ⊎ IsRefusedOver D.Disk files fault) }
+        ensures refused { IfErr result (IsFaultOfOpening D.Disk files) }
     {
-        let (store, counts) = Store::open(alloc, files, options)?;
-        Ok(Office {
-            alloc,
-            store,
-            known: Known {
-                counts,
-                archs: None,
-            },
-            is_closed: false,
-        })
+        match Office::try_open(alloc, files, options) {
+            Ok(office) => Ok(office),
+            Err(refused) => Err(refused.fault),
+        }
     }
 
     /// Closes the office, and gives back its files: they hold its state, also after a crash. The fault is `Memory`, or
-    /// `Device` if the disk failed or is full, or if a fault shut the connection before; a crash then leaves no more than
-    /// before (this project's own).
+    /// `Device` if the disk failed or is full, or if a fault shut the connection before; the files are handed back then too,
+    /// and a crash leaves no more than before (this project's own).
+    pub fn try_close(self) -> Result<Files<D>, RefusedFiles<D>>
+        ensures settled { IfOk result (λ files. AreClean D.Disk files.log files.db → (machine : Machine)
+            → StandsAt machine self.is_closed self.known (file_state self.store)
+            → AreSettledAt D.Disk files machine) }
+        ensures either { IfOk result (λ files. AreClean D.Disk files.log files.db → (before after : Machine)
+            → LeavesEither before after (file_state self.store)
+            → AreSettledAt D.Disk files before ⊎ AreSettledAt D.Disk files after) }
+        ensures clean { IfOk result (λ files. AreClean D.Disk files.log files.db → HasCleanDisk (file_state self.store)) }
+        ensures usable { IfOk result (λ files. IsTrue (D.Disk.is_usable files.log) × IsTrue (D.Disk.is_usable files.db)) }
+        ensures err { IfErr result (λ refused. AreUnclosed self.store refused.fault refused.files) }
+    {
+        self.store.try_close()
+    }
+
+    /// Closes the office as [`try_close`](Office::try_close) does, but drops files that are not closed (this project's
+    /// own).
     pub fn close(self) -> Result<Files<D>, StoreFault>
         ensures settled { IfOk result (λ files. AreClean D.Disk files.log files.db → (machine : Machine)
             → StandsAt machine self.is_closed self.known (file_state self.store)
             → AreSettledAt D.Disk files machine) }
         ensures either { IfOk result (λ files. AreClean D.Disk files.log files.db → (before after : Machine)
-            → LeavesOne before after self.is_closed (file_state self.store)
+            → LeavesEither before after (file_state self.store)
             → AreSettledAt D.Disk files before ⊎ AreSettledAt D.Disk files after) }
         ensures clean { IfOk result (λ files. AreClean D.Disk files.log files.db → HasCleanDisk (file_state self.store)) }
         ensures usable { IfOk result (λ files. IsTrue (D.Disk.is_usable files.log) × IsTrue (D.Disk.is_usable files.db)) }
         ensures err { IfErr result (IsFaultOfClosing self.store) }
     {
-        self.store.close()
+        match self.try_close() {
+            Ok(files) => Ok(files),
+            Err(refused) => Err(refused.fault),
+        }
     }
 
     /// Gives the office up, as after a fault, and hands out its files. A crash leaves of them what it could leave of the
@@ -294,7 +380,7 @@ impl<S: Alter + Drop> CarryOut for Office<S> {
     ghost is_closed = { λ office. office.is_closed ≡ true };
 
     ghost leaves = { λ office before after fault. LeavesOne before after office.is_closed (state S.Store office.store)
-        × HasFailed S.Store fault office.store };
+        × HasFailed S.Store before fault office.store };
 
     fn accepted_count(&self) -> u64 {
         self.known.counts.accepted

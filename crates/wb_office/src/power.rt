@@ -1,8 +1,9 @@
 //! A power cut, after which the files are one of those that a crash may leave.
 
-ghost use Rattle.std.specs.Prelude.{◌≡◌, ℕ, ◌+◌, ◌<◌, IsTrue};
+ghost use Rattle.std.specs.Prelude.{◌≡◌, ℕ, ◌+◌, ◌<◌, ⊤, IsTrue};
 ghost use Rattle.sqlite.specs.WalFiles.{outcomes};
 ghost use Rattle.sqlite.specs.WalReads.{AreClean};
+ghost use Rattle.sqlite_disk.specs.declared.Files.{Files as Pair};
 ghost use Rattle.wb_sql.specs.Settled.{AreSettled};
 
 use sqlite::Files;
@@ -13,6 +14,9 @@ pub trait Power<D: Disk> {
     // How many times it can still cut the power.
     ghost cuts_left: { Self → ℕ };
 
+    // One cut: these files were left before it, and those were handed back after it.
+    ghost hands_back: { Self → Pair D → Pair D → Self → Type 0 } = { λ _ _ _ _. ⊤ };
+
     /// How many times it can still cut the power. Takes no memory.
     fn left(&self) -> u64
         ensures value { result ≡ cuts_left self.now };
@@ -22,6 +26,7 @@ pub trait Power<D: Disk> {
     fn back(&mut self, files: Files<D>) -> Files<D>
         requires some { 0 < cuts_left self.old }
         ensures counted { cuts_left self.old ≡ cuts_left self.new + 1 }
+        ensures told { hands_back self.old files result self.new }
         ensures fewer { (image : _) → outcomes D.Disk result.log result.db image → outcomes D.Disk files.log files.db image }
         ensures clean { AreClean D.Disk result.log result.db → AreClean D.Disk files.log files.db }
         ensures usable { IsTrue (D.Disk.is_usable result.log) × IsTrue (D.Disk.is_usable result.db) };
@@ -60,6 +65,7 @@ impl<D: Crash> Power<D> for Crashes {
 pub fn cut_power<D: Disk, P: Power<D>>(power: &mut P, files: Files<D>) -> Files<D>
     requires some { 0 < P.cuts_left power.old }
     ensures counted { P.cuts_left power.old ≡ P.cuts_left power.new + 1 }
+    ensures told { P.hands_back power.old files result power.new }
     ensures fewer { (image : _) → outcomes D.Disk result.log result.db image → outcomes D.Disk files.log files.db image }
     ensures settled { (db : _) → AreSettled D.Disk files db → AreSettled D.Disk result db }
     ensures clean { AreClean D.Disk result.log result.db → AreClean D.Disk files.log files.db }

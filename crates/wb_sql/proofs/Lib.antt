@@ -17,6 +17,7 @@ pub mod FirstSchemaLemmas
 pub mod FormatLemmas
 pub mod FreeLemmas
 pub mod GrowthLemmas
+pub mod HandedBackLemmas
 pub mod IdCheckLemmas
 pub mod MakingLemmas
 pub mod MeetingLemmas

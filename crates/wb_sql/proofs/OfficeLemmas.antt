@@ -19,6 +19,10 @@ record_columns =
 abbrev pub state_columns : List (ℕ × Column)
 state_columns = (2, number (codes "state")) ∷ []
 
+-- the column of a record's source package
+abbrev pub source_columns : List (ℕ × Column)
+source_columns = (1, text (codes "source")) ∷ []
+
 -- the columns of an architecture
 abbrev pub arch_columns : List (ℕ × Column)
 arch_columns = (0, text (codes "name")) ∷ (1, text (codes "os")) ∷ (2, text (codes "cpu")) ∷ []
@@ -82,6 +86,10 @@ record_columns_are tree = (
 pub state_columns_are : (tree : ℕ) → AreColumns (table_at tree source_record) state_columns
 unfolding same_name
 state_columns_are tree = (record { named = refl; is = refl }, tt)
+
+pub source_columns_are : (tree : ℕ) → AreColumns (table_at tree source_record) source_columns
+unfolding same_name
+source_columns_are tree = (record { named = refl; is = refl }, tt)
 
 pub arch_columns_are : (tree : ℕ) → AreColumns (table_at tree arch) arch_columns
 unfolding same_name

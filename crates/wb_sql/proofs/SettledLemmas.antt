@@ -1,5 +1,5 @@
 -- What the files of a connection hold.
-use Rattle.std.proofs.Common.{◌≡◌, [], length, inl, inr, Result, Ok, Err, IfOk, IsTrue, ap, arith, sym, subst, ◌∙◌}
+use Rattle.std.proofs.Common.{◌≡◌, [], length, inl, inr, IsTrue, ap, arith, sym, subst, ◌∙◌}
 use Rattle.std.proofs.Math.Logic.{∥∥₁_elim, ∥∥₁_map}
 use Rattle.sqlite_disk.specs.declared.Disk.{Ghosts}
 use Rattle.sqlite_disk.specs.declared.Files.{Files}
@@ -12,9 +12,8 @@ use Rattle.sqlite_store.specs.declared.store.FileStore.{FileStore}
 use Rattle.sqlite_store.specs.Laws.{settled_at}
 use Rattle.sqlite.specs.Held.{Held}
 use Rattle.sqlite.specs.Closing.{IsCopied}
-use Rattle.sqlite.specs.Files.{file_state, Finds, IsEmpty, IsOpened, HoldsDatabase, image_of}
+use Rattle.sqlite.specs.Files.{file_state, Finds, IsEmpty, HoldsDatabase, image_of}
 use Rattle.sqlite.specs.Held.{AreDatabases}
-use Rattle.sqlite.specs.State.{HasCleanDisk}
 use Rattle.sqlite_trees.specs.View.{IsClean}
 use Rattle.sqlite_trees.proofs.Doubt.{no_doubt}
 use Rattle.sqlite_pool.proofs.StateLemmas.{clean_is, may_leave_is}
@@ -45,22 +44,6 @@ module _ {D : Type 0} {g : Ghosts D} (c : Held (FileStore D g)) (files : Files D
 
   pub settled_alone : SeenMayStay g → IsTrue (file_state c).is_open → LeavesAlone (file_state c) (file_state c).committed.trees
   settled_alone stays is_open db may = settled_at c.store stays db is_open may
-
-module _ {D : Type 0} {g : Ghosts D} {E : Type 0} where
-  pub closed_settled : (c : Held (FileStore D g)) (r : Result (Files D) E) → IfOk r (λ files. AreClean g files.log files.db → IsCopied c files)
-      → IfOk r (λ files. AreClean g files.log files.db → AreSettled g files (file_state c).committed.trees)
-  closed_settled c (Ok files) h = λ clean. settled_by_close c files (h clean)
-  closed_settled c (Err e) h = tt
-
-  pub opened_found : SeenMayStay g → (files : Files D) (r : Result (Held (FileStore D g)) E) → IfOk r (λ c. HasCleanDisk (file_state c) → Finds files c)
-      → IfOk r (λ c. HasCleanDisk (file_state c) → (db : Trees) → AreSettled g files db → (file_state c).committed.trees ≡ db)
-  opened_found stays files (Ok c) h = λ clean. found_by_open c files stays (h clean)
-  opened_found stays files (Err e) h = tt
-
-  pub opened_alone : SeenMayStay g → (r : Result (Held (FileStore D g)) E) → IfOk r (λ c. HasCleanDisk (file_state c) → IsOpened c)
-      → IfOk r (λ c. HasCleanDisk (file_state c) → LeavesAlone (file_state c) (file_state c).committed.trees)
-  opened_alone stays (Ok c) h = λ clean db may. settled_at c.store stays db (h clean).0.is_open may
-  opened_alone stays (Err e) h = tt
 
 -- a store is clean whose files are clean
 pub clean_by : {D : Type 0} {g : Ghosts D} (it : FileStore D g) (files : Files D) → (files.log, files.db) ≡ store.files it → AreClean g files.log files.db → IsClean (view it)

@@ -4,6 +4,7 @@ pub mod Changes
 pub mod Definitions
 pub mod FirstSchema
 pub mod Format
+pub mod HandedBack
 pub mod Making
 pub mod OfficeStatements
 pub mod Queries

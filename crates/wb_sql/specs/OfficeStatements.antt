@@ -98,6 +98,19 @@ records_in_state = records_where (equals 1 0 ∷ equals 3 1 ∷ []) (rising 2 �
 abbrev pub states_of_arch : TableQuery
 states_of_arch = record { tree = 5; filter = equals 1 0 ∷ []; project = cell 3 ∷ []; order = []; collations = []; limit = no_limit; offset = none_skipped }
 
+-- the source package of each record of an architecture, by name
+abbrev pub names_of_arch : TableQuery
+names_of_arch = record {
+  tree = 5;
+  filter = equals 1 0 ∷ [];
+  project = cell 2 ∷ [];
+  order = rising 2 ∷ [];
+  collations =
+      [];
+  limit = no_limit;
+  offset = none_skipped;
+}
+
 -- all records, by architecture and then by source package
 abbrev pub all_records : TableQuery
 all_records = records_where [] (rising 1 ∷ rising 2 ∷ []) no_limit

@@ -3,29 +3,30 @@
 ghost use Rattle.std.specs.Prelude.{◌≡◌, IsTrue, IfOk, IfErr};
 ghost use Rattle.sqlite.specs.WalReads.{AreClean};
 ghost use Rattle.sqlite.specs.State.{HasCleanDisk};
+ghost use Rattle.sqlite.specs.Closing.{IsCopied};
 ghost use Rattle.sqlite.specs.Held.{IsNew};
-ghost use Rattle.sqlite.specs.Files.{file_state, Finds, IsOpened, IsClosed, FailsToClose};
-ghost use Rattle.sqlite.specs.Files.{IsCleanLeft, FailsToOpenFiles, LeavesFiles};
-ghost use Rattle.sqlite_store.specs.FileStore.{view};
-ghost use Rattle.sqlite_trees.specs.View.{IsClean};
+ghost use Rattle.sqlite.specs.Files.{file_state, Finds, IsOpened};
+ghost use Rattle.wb_sql.specs.HandedBack.{IsUnclosed, IsUnopened};
 ghost use Rattle.wb_sql.specs.Settled.{AreSettled, LeaveOnly};
 ghost use Rattle.wb_sql.specs.Transactions.{LeavesAlone};
 
-use sqlite::{Connection, Error, FileStore, Files, Leftover, Options};
+use sqlite::{Connection, Error, FileStore, Files, Options};
 use sqlite_disk::Disk;
 use std::alloc::Global;
 
 /// Closes a connection, and gives back its files, which then hold the last commit, also after a crash. What is not
-/// committed is lost. It fails if the store is shut, a file fails or memory runs out.
-pub fn close<D: Disk + Drop>(
-    conn: Connection<FileStore<D>>,
-) -> Result<Files<D>, (Error, FileStore<D>)>
+/// committed is lost. It fails if the store is shut, a file fails or memory runs out, and gives the files back then too.
+pub fn close<D: Disk + Drop>(conn: Connection<FileStore<D>>) -> Result<Files<D>, (Error, Files<D>)>
     ensures settled { IfOk result (λ files. AreClean D.Disk files.log files.db
         → AreSettled D.Disk files (file_state conn).committed.trees) }
+    ensures copied { IfOk result (λ files. AreClean D.Disk files.log files.db → IsCopied conn files) }
     ensures usable { IfOk result (λ files. IsTrue (D.Disk.is_usable files.log) × IsTrue (D.Disk.is_usable files.db)) }
-    ensures err { IfErr result (λ e. IsClosed conn e.1 × (IsClean (view e.1) → FailsToClose conn e.1 e.0)) }
+    ensures err { IfErr result (λ e. IsUnclosed conn e.0 e.1) }
 {
-    conn.close_files()
+    match conn.close_files() {
+        Ok(files) => Ok(files),
+        Err((error, store)) => Err((error, store.close())),
+    }
 }
 
 /// Gives up a connection, as after a fault, and hands out its files. They hold what the connection could leave.
@@ -36,13 +37,12 @@ pub fn surrender<D: Disk + Drop>(conn: Connection<FileStore<D>>) -> Files<D>
     conn.into_store().close()
 }
 
-/// Opens files, and finds what they hold. It fails as `Connection::open_files` does, and then hands back what is left
-/// of them.
+/// Opens files, and finds what they hold. It fails as `Connection::open_files` does, and then gives the files back.
 pub fn open<D: Disk + Drop>(
     alloc: Global,
     files: Files<D>,
     options: Options,
-) -> Result<Connection<FileStore<D>>, (Error, Leftover<D>)>
+) -> Result<Connection<FileStore<D>>, (Error, Files<D>)>
     requires log { IsTrue (D.Disk.is_usable files.log) }
     requires db { IsTrue (D.Disk.is_usable files.db) }
     ensures opened { IfOk result (λ c. HasCleanDisk (file_state c) → IsOpened c) }
@@ -52,8 +52,10 @@ pub fn open<D: Disk + Drop>(
     ensures alone { IfOk result (λ c. HasCleanDisk (file_state c)
         → LeavesAlone (file_state c) (file_state c).committed.trees) }
     ensures fresh { IfOk result IsNew }
-    ensures err { IfErr result (λ e. IsCleanLeft e.1 → FailsToOpenFiles files e.1 e.0) }
-    ensures unharmed { IfErr result (λ e. IsCleanLeft e.1 → LeavesFiles files e.1) }
+    ensures err { IfErr result (λ e. IsUnopened D.Disk files e.0 e.1) }
 {
-    Connection::open_files(alloc, files, options)
+    match Connection::open_files(alloc, files, options) {
+        Ok(conn) => Ok(conn),
+        Err((error, left)) => Err((error, left.into_files())),
+    }
 }

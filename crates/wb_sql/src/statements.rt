@@ -5,7 +5,7 @@ ghost use Rattle.wb_sql.specs.Tables.{office, arch, builder, source_record, scra
 ghost use Rattle.wb_sql.specs.Among.{AsksAmong, InsertsAmong, UpsertsRecords, UpdatesAmong, DeletesAmong};
 ghost use Rattle.wb_sql.specs.Format.{AsksFormat};
 ghost use Rattle.wb_sql.specs.OfficeStatements.{has_record_key, record_sets, record_of_key, queue_of, head_of};
-ghost use Rattle.wb_sql.specs.OfficeStatements.{record_of_take, held_by, records_in_state, records_of_arch, states_of_arch, all_records};
+ghost use Rattle.wb_sql.specs.OfficeStatements.{record_of_take, held_by, records_in_state, records_of_arch, states_of_arch, names_of_arch, all_records};
 ghost use Rattle.wb_sql.specs.OfficeStatements.{arch_row, arch_of_name, all_archs, office_sets, office_counts, office_row};
 ghost use Rattle.wb_sql.specs.OfficeStatements.{builder_row, pair_of_builder, pairs_of_builder, all_builders, first_source, first_binary};
 
@@ -106,6 +106,14 @@ pub fn states_of_arch() -> &'static str
     ensures { AsksAmong source_record result.now states_of_arch 1 }
 {
     "SELECT state FROM source_record WHERE arch = ?1"
+}
+
+/// The source package of each record of an architecture, by name. The index of the key has both columns, so no record is
+/// read.
+pub fn names_of_arch() -> &'static str
+    ensures { AsksAmong source_record result.now names_of_arch 1 }
+{
+    "SELECT source FROM source_record WHERE arch = ?1 ORDER BY source"
 }
 
 /// All records, by architecture and then by source package.

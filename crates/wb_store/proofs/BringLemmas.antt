@@ -3,7 +3,8 @@ use Rattle.std.proofs.Common.{◌≡◌, inl, inr, true, false, map, Result, Ok,
 use Rattle.std.proofs.lemmas.Bool.{both_ways}
 use Rattle.sqlite_trees.specs.declared.store.Store.{Ghosts}
 use Rattle.sqlite.specs.Held.{Held, state}
-use Rattle.sqlite.specs.State.{HasCleanDisk}
+use Rattle.sqlite.specs.State.{HasCleanDisk, Survives}
+use Rattle.wb_sql.specs.Upgrading.{HasFirstOffice}
 use Rattle.sqlite.specs.Tree.{Trees}
 use Rattle.wb_states.specs.declared.counts.Counts.{Counts}
 use Rattle.wb_states.specs.declared.keyed.KeyedRecord.{KeyedRecord}
@@ -16,6 +17,11 @@ use Rattle.wb_store.specs.Upgrading.{HasFirst, UpgradesOffice}
 use Rattle.wb_store.proofs.FindsLemmas.{stays-now, stays-open}
 use Rattle.wb_store.proofs.RefusalLemmas.{idle_kept, idle_stays}
 use Rattle.wb_store.proofs.StaysLemmas.{was_clean}
+
+-- tests of an office of the first schema leave no more than before
+first_left : {S : Type 0} (g : Ghosts S) (old new : Held S) → Survives (state g old) (state g new) (λ _. ¬ HasFirstOffice old.schema) → HasFirstOffice old.schema → HasCleanDisk (state g new)
+    → (db : Trees) → (state g new).may_leave db → (state g old).may_leave db
+first_left g old new survives first clean db may = elim (survives.crash clean db may) [ inl was ↦ was | inr other ↦ absurd (other first) ]
 
 module _ {S X : Type 0} {g : Ghosts S} {old : Held S} (idle : (state g old).in_transaction ≡ false) where
   -- it is not read
@@ -30,6 +36,7 @@ module _ {S X : Type 0} {g : Ghosts S} {old : Held S} (idle : (state g old).in_t
       | inl was ↦ inl was
       | inr none ↦ absurd (none first.office.stands.has)
     ];
+    leaves = λ clean first some db may. inl (first_left g old new reads.survives first clean db may);
     good = λ clean first. tt;
     idle = λ clean first. idle_kept (state g old) (state g new) idle (reads.kept clean first);
   })
@@ -57,8 +64,9 @@ module _ {S X : Type 0} {g : Ghosts S} {old : Held S} (idle : (state g old).in_t
       limit = reads.survives.limit;
       brought = λ clean machine sound first. tt;
       fails = λ clean machine sound first. absurd (both_ways (state g mid).in_transaction (idle_stays g old mid idle (reads.same clean first.office.stands.has)) inside);
-      refuses = λ clean first. inr ((reads.good clean first).0.0, λ machine has. absurd (both_ways (state g mid).in_transaction (idle_stays g old mid idle (reads.same clean first)) inside));
+      refuses = λ clean first. inr ((reads.good clean first).0.0, (reads.good clean first).1, λ machine has. absurd (both_ways (state g mid).in_transaction (idle_stays g old mid idle (reads.same clean first)) inside));
       crash = λ clean machine first db may. inl (left_before clean machine first db may);
+      leaves = λ clean first some db may. inl (first_left g old mid reads.survives first clean db may);
       good = λ clean first. tt;
       idle = λ clean first. idle_stays g old mid idle (reads.same clean first);
     }
@@ -75,12 +83,20 @@ module _ {S X : Type 0} {g : Ghosts S} {old : Held S} (idle : (state g old).in_t
             inr (mid, reads.same before first.office.stands.has, upgrades.err clean machine (first_stays before machine first) (reads.told before first.office.stands.has machine first.office.stands).1);
         refuses = λ clean first.
             let before = upgrades.was_clean clean in
-            inr ((reads.good before first).0.0, λ machine has. (mid, reads.same before first, upgrades.err clean machine (first_stays before machine has) (reads.told before has.office.stands.has machine has.office.stands).1));
+            inr ((reads.good before first).0.0, (reads.good before first).1, λ machine has. (mid, reads.same before first, upgrades.err clean machine (first_stays before machine has) (reads.told before has.office.stands.has machine has.office.stands).1));
         crash = λ clean machine first db may.
             let before = upgrades.was_clean clean in
             elim (upgrades.crash clean machine (first_stays before machine first) (reads.told before first.office.stands.has machine first.office.stands).1 db may) [
               | inl was ↦ inl (left_before before machine first db was)
               | inr made ↦ inr made
+            ];
+        leaves = λ clean first some db may.
+            let before = upgrades.was_clean clean in
+            let good = reads.good before first in
+            let (machine, has) = some good.0.0 good.1 in
+            elim (upgrades.crash clean machine (first_stays before machine has) (reads.told before first machine has.office.stands).1 db may) [
+              | inl was ↦ inl (left_before before machine has db was)
+              | inr made ↦ inr (machine, has.office, made)
             ];
         good = λ clean first. tt;
         idle = λ clean first. upgrades.idle clean;
@@ -102,6 +118,14 @@ module _ {S X : Type 0} {g : Ghosts S} {old : Held S} (idle : (state g old).in_t
             elim (upgrades.crash clean machine (first_stays before machine first) (reads.told before first.office.stands.has machine first.office.stands).1 db may) [
               | inl was ↦ inl (left_before before machine first db was)
               | inr made ↦ inr made
+            ];
+        leaves = λ clean first some db may.
+            let before = upgrades.was_clean clean in
+            let good = reads.good before first in
+            let (machine, has) = some good.0.0 good.1 in
+            elim (upgrades.crash clean machine (first_stays before machine has) (reads.told before first machine has.office.stands).1 db may) [
+              | inl was ↦ inl (left_before before machine has db was)
+              | inr made ↦ inr (machine, has.office, made)
             ];
         good = λ clean first. reads.good (upgrades.was_clean clean) first;
         idle = λ clean first. upgrades.idle clean;

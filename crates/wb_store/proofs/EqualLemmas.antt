@@ -1,5 +1,5 @@
 -- When SQL finds two values equal, and how it orders them.
-use Rattle.std.proofs.Common.{◌≡◌, ℕ, pos, Bool, true, false, ◌&&◌, List, Option, None, Some, bytes_eq, nat_eq, Decides, refl, sym, ap, subst, ◌∙◌, arith, Ordering, Less, Equal, Greater, nat_cmp, int_cmp, is_eq}
+use Rattle.std.proofs.Common.{◌≡◌, ℕ, pos, Bool, true, false, ◌&&◌, List, Option, None, Some, bytes_eq, nat_eq, Decides, refl, ap, subst, ◌∙◌, arith, Ordering, Less, Equal, Greater, nat_cmp, int_cmp, is_eq}
 use Rattle.std.specs.Ordering.{ordering_then}
 use Rattle.std.proofs.lemmas.Bool.Decides.{nat_tests, same_from_decides}
 use Rattle.std.proofs.lemmas.Cmp.{tied_itself}

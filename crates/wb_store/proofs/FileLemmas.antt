@@ -1,6 +1,6 @@
 -- An office over two files: closed and opened again, it stands for the state that it had.
-use Rattle.std.proofs.Common.{◌≡◌, ◌⊎◌, inl, inr, Result, Ok, Err, IfOk, IfErr, refl, sym, ap, subst, ◌∙◌}
-use Rattle.std.proofs.Math.Logic.{∥∥₁_map}
+use Rattle.std.proofs.Common.{◌≡◌, ◌⊎◌, inl, inr, Result, Ok, Err, IfOk, refl, sym, ap, subst, ◌∙◌}
+use Rattle.std.proofs.Math.Logic.{∥∥₁_elim, ∥∥₁_map}
 use Rattle.sqlite_disk.specs.declared.Disk.{Ghosts}
 use Rattle.sqlite_disk.specs.declared.Files.{Files}
 use Rattle.sqlite_wal.specs.Reads.{AreClean}
@@ -14,11 +14,13 @@ use Rattle.sqlite.specs.Tree.{Trees}
 use Rattle.sqlite.specs.Closing.{IsCopied}
 use Rattle.sqlite.specs.Effect.{Database}
 use Rattle.sqlite.specs.Held.{Held}
-use Rattle.sqlite.specs.Files.{file_state, over_files, Finds, HoldsDatabase, IsOpened}
+use Rattle.sqlite.specs.Files.{file_state, Finds, HoldsDatabase, IsOpened}
 use Rattle.sqlite.specs.State.{HasCleanDisk, State}
 use Rattle.sqlite.proofs.ListingLemmas.{empty_is_sound}
 use Rattle.wb_sql.specs.Transactions.{LeavesAlone}
 use Rattle.wb_sql.proofs.SettledLemmas.{settled_by_close, found_left, found_new}
+use Rattle.wb_sql.proofs.HandedBackLemmas.{kept_allowed}
+use Rattle.wb_sql.specs.HandedBack.{KeepDatabase}
 use Rattle.wb_sql.specs.Settled.{AreSettled, LeaveOnly}
 use Rattle.wb_sql.specs.Among.{HasOffice, LacksOffice}
 use Rattle.wb_sql.proofs.GrowthLemmas.{empty_lacks}
@@ -30,8 +32,7 @@ use Rattle.wb_store.specs.declared.format.Format.TheVariants.{One}
 use Rattle.wb_sql.specs.Upgrading.{HasFirstOffice}
 use Rattle.wb_store.specs.Settled.{AreSettledAt, StandsForTrees, IsSettled, IsBackAt, LeavesEither, IsSettledFirst, StandsForFirstTrees}
 use Rattle.wb_store.proofs.OpeningSoundLemmas.{good_first_consistent, good_rows_consistent}
-use Rattle.wb_store.specs.Files.{AreFoundAt, AreNew, FailsToOpen, IsOver, IsRefusedOver, LeaveOffice}
-use Rattle.wb_store.specs.Opening.{IsRefusedFrom}
+use Rattle.wb_store.specs.Files.{AreFoundAt, AreGivenUp, AreNew, AreRefusedOver, IsOver, KeepOffice, LeaveOffice}
 use Rattle.wb_store.specs.Preparing.{AreBlank, HoldOffice, IsBlank, IsFoundAt}
 use Rattle.wb_store.proofs.NumberedLemmas.{empty_schema}
 use Rattle.sqlite.specs.Schema.{Schema}
@@ -208,14 +209,44 @@ pub clean_over : {X E : Type 0} {WasClean AreClean : Type 0} (IsCleanAt : X → 
 clean_over IsCleanAt (Ok x) over was = λ clean. over (was clean)
 clean_over IsCleanAt (Err e) over was = tt
 
--- an office that was refused over files that were opened
-pub refused_over : {D X : Type 0} (g : Ghosts D) (c : Held (FileStore D g)) (files : Files D) (r : Result X StoreFault) → IsOver g files c
-    → IfErr r (IsRefusedFrom over_files c) → IfErr r (λ fault. FailsToOpen g files fault ⊎ IsRefusedOver g files fault)
-refused_over g c files (Ok x) over refused = tt
-refused_over g c files (Err fault) over refused = inr (record { conn = c; opened = over; refused = refused })
-
 -- files of which a crash leaves only what is allowed leave only what is allowed by a wider account
 pub leave_wider : {D : Type 0} (g : Ghosts D) (files : Files D) {Allowed Wider : Trees → Type 0} → ((db : Trees) → Allowed db → Wider db)
     → LeaveOnly g files Allowed → LeaveOnly g files Wider
 leave_wider g files {Wider = Wider} wider leave image may = ∥∥₁_map (leave image may) (λ found.
     let r : (db : Trees) × Wider db × HoldsDatabase image db = (found.0, wider found.0 found.1, found.2) in r)
+
+-- files that keep their database keep the office
+pub keep_office : {D : Type 0} (g : Ghosts D) → SeenMayStay g → (files back : Files D) → KeepDatabase g files back → KeepOffice g files back
+keep_office g stays files back keep one other = kept_allowed g stays files back keep (λ db. HoldOffice one db ⊎ HoldOffice other db)
+
+module _ {D : Type 0} (g : Ghosts D) {c : Held (FileStore D g)} {fault : StoreFault} {back : Files D} (given : AreGivenUp c fault back) (clean : AreClean g back.log back.db) where
+  -- the disk was clean when the office was opened
+  given_clean : HasCleanDisk (file_state c)
+  given_clean = given.refused.was_clean (given.clean clean)
+
+  -- files of an office that was refused hold the state that was found
+  given_found : (machine : Machine) → IsFoundAt machine (file_state c) → LeaveOnly g back (HoldOffice machine)
+  given_found machine found image may = ∥∥₁_map (given.left clean image may) (λ here.
+      let r : (db : Trees) × HoldOffice machine db × HoldsDatabase image db = (here.0, given.refused.left (given.clean clean) machine found here.0 here.1, here.2) in r)
+
+-- an office that was refused over files that were opened
+pub refused_over : {D : Type 0} (g : Ghosts D) → SeenMayStay g → (c : Held (FileStore D g)) (files : Files D) {fault : StoreFault} {back : Files D}
+    → (HasCleanDisk (file_state c) → IsOpened c) → (HasCleanDisk (file_state c) → Finds files c)
+    → (HasCleanDisk (file_state c) → (db : Trees) → AreSettled g files db → (file_state c).committed.trees ≡ db)
+    → (HasCleanDisk (file_state c) → LeavesAlone (file_state c) (file_state c).committed.trees) → AreGivenUp c fault back → AreRefusedOver g files fault back
+refused_over g stays c files {back = back} opened finds found alone given = record {
+  conn = c;
+  opened = is_over g c files opened found alone;
+  given_up = given;
+  clean = λ clean. (finds (given_clean g given clean)).honest;
+  kept = λ clean one other leave image may.
+      let was = given_clean g given clean in
+      ∥∥₁_elim (found_one g c (opened was) (alone was) files stays (finds was) one other leave) squash₁ (λ which. elim which [
+        | inl at ↦ leave_wider g back {Wider = λ db. HoldOffice one db ⊎ HoldOffice other db} (λ db holds. inl holds) (given_found g given clean one at) image may
+        | inr at ↦ leave_wider g back {Wider = λ db. HoldOffice one db ⊎ HoldOffice other db} (λ db holds. inr holds) (given_found g given clean other at) image may
+      ]);
+  new = λ clean new.
+      let was = given_clean g given clean in
+      leave_wider g back {Wider = λ db. HoldOffice empty_office db ⊎ HoldOffice empty_office db} (λ db holds. inl holds)
+      (given_found g given clean empty_office (found_in_new g c (opened was) (alone was) files (finds was) new));
+}

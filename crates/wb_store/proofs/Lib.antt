@@ -36,6 +36,7 @@ pub mod PartLemmas
 pub mod PlaceLemmas
 pub mod PreparingLemmas
 pub mod ReadLemmas
+pub mod RecordNameLemmas
 pub mod RefusalLemmas
 pub mod RenewalLemmas
 pub mod ScratchLemmas

@@ -36,13 +36,14 @@ use Rattle.wb_states.specs.Lookups.{is_in, is_of, rows_of}
 use Rattle.wb_states.specs.Lookups.{rows_in as records_in}
 use Rattle.wb_rows.specs.Cells.{record_cells, state_cells, number}
 use Rattle.wb_rows.specs.Reading.{IsReadable}
+use Rattle.wb_rows.specs.Scratch.{name_cells}
 use Rattle.wb_store.specs.Merging.{Scratch}
 use Rattle.wb_store.specs.Stands.{StandsWith}
 use Rattle.wb_store.specs.Lookups.{AreRecords}
 use Rattle.wb_store.proofs.EqualLemmas.{are_equal, and_true, then_none, nat_eq-turned, equal-Text, equal-number, equal-text_or_null, equal-number_or_null, order-number}
 use Rattle.wb_store.proofs.FormLemmas.{kept_readable}
 use Rattle.wb_store.proofs.OrderLemmas.{all_from_in, kept_pass, ascending_with, entries_ascend, ascending_from_strict, entry_at, filter_at, few_at, at_most_one, IsPermutation-sorted_by}
-use Rattle.wb_store.proofs.TableLemmas.{SkipsRowid, IsBefore, passes, answer_same, few_answer, rising_answer, rising_first, whole_fits, first_fits_too}
+use Rattle.wb_store.proofs.TableLemmas.{SkipsRowid, IsBefore, passes, answer_same, few_answer, rising_answer, rising_first, rising_shown, whole_fits, first_fits_too}
 
 -- ---- which records pass the tests of a query
 
@@ -118,6 +119,10 @@ skips_arch params (x ∷ row) = (refl, refl)
 skips_state : (params : Row) → SkipsRowid sql.records_in_state params
 skips_state params [] = (refl, refl)
 skips_state params (x ∷ row) = (refl, refl)
+
+skips_names : (params : Row) → SkipsRowid sql.names_of_arch params
+skips_names params [] = (refl, refl)
+skips_names params (x ∷ row) = (refl, refl)
 
 skips_queue : (params : Row) → SkipsRowid sql.queue_of params
 skips_queue params [] = (refl, refl)
@@ -289,6 +294,17 @@ module _ (machine : Machine) {scratch : Scratch} (db : Database) (stands : Stand
   states_answer arch a =
       subst (λ chosen. IsPermutation (map (λ (entry : Entry). state_cells entry.1.state) chosen) answer) (filter_same _ (is_of arch) (arch_passes arch) kept)
       (answer_same record_cells sql.states_of_arch (Text arch ∷ []) (skips_states (Text arch ∷ [])) refl refl kept (rows_in db tables.source_record) answer stands.records a)
+
+  -- the source packages of the records of an architecture
+  pub names_answer : (arch : List ℕ) → Answers sql.names_of_arch (Text arch ∷ [])
+      (rows_in db tables.source_record) answer → answer ≡ map (λ (entry : Entry). name_cells entry.0.1)
+      (rows_of machine arch)
+  unfolding rows_of
+  names_answer arch a =
+      rising_shown record_cells sql.names_of_arch (Text arch ∷ []) (skips_names (Text arch ∷ [])) refl refl kept
+      (rows_in db tables.source_record) answer stands.records a
+      (filter (is_of arch) kept) (arch_ascends machine arch) (IsPermutation-same _ _ (filter_same (is_of arch) _
+      (λ e. sym (arch_passes arch e)) kept))
 
   -- what a builder holds, by the keys
   pub held_answer : (builder : List ℕ) → Answers sql.held_by (Text builder ∷ []) (rows_in db tables.source_record) answer → answer ≡ map record_cells (filter (is_held_by builder) kept)

@@ -6,7 +6,7 @@ use Rattle.std.specs.FinMap as finite
 use Rattle.std.specs.Ordering.{nat_cmp, is_eq, is_lt}
 use Rattle.std.proofs.lemmas.Slice.Eq.{bytes_eq-Decides}
 use Rattle.std.proofs.lemmas.Map.Views.{Contains-from_any, list_any-from_Contains}
-use Rattle.sqlite_keyed.proofs.ListLemmas.{filter-map, filter_same, map-map}
+use Rattle.sqlite_keyed.proofs.ListLemmas.{filter_same}
 use Rattle.deb_text.specs.Lists.{IsIn, with_item}
 use Rattle.deb_text.specs.Text.{text_cmp}
 use Rattle.deb_text.proofs.SortedLemmas.{IsIn-filter}
@@ -15,12 +15,11 @@ use Rattle.wb_states.specs.declared.scratch.BinaryRow.{BinaryRow}
 use Rattle.wb_states.specs.declared.scratch.SourceRow.{SourceRow}
 use Rattle.wb_states.specs.declared.state.State.{State}
 use Rattle.wb_states.specs.declared.state.State.TheVariants.{DepWait}
-use Rattle.wb_states.specs.Lookups.{entry_of, is_in, is_of, rows_in, rows_of}
+use Rattle.wb_states.specs.Lookups.{entry_of, is_in, rows_in}
 use Rattle.wb_states.specs.Machine.{Machine}
 use Rattle.wb_states.specs.Queue.{Entry}
 use Rattle.wb_states.specs.State.{code_of, is_dep_wait}
 use Rattle.wb_states.proofs.QueueLemmas.{IsIn-entries}
-use Rattle.wb_merge.specs.Merged.{recorded_names}
 use Rattle.wb_merge.specs.Scratch.{versions_in}
 use Rattle.wb_archive.specs.Tables.{AreApart, AreNamesOf, HaveWaiting}
 use Rattle.wb_store.specs.Merging.{ListsNames}
@@ -76,15 +75,6 @@ names_listed rows names listed = record {
 }
 
 -- ---- the records of an architecture
-
-pub names_recorded : (machine : Machine) (arch : List ℕ) (rows : List KeyedRecord) → map entry_of rows ≡ rows_of machine arch
-    → map (λ (row : KeyedRecord). row.source) rows ≡ recorded_names machine.records arch
-unfolding rows_of
-names_recorded machine arch rows are =
-    sym (map-map (λ (entry : Entry). entry.0.1) entry_of rows)
-    ∙ ap (map (λ (entry : Entry). entry.0.1)) are
-    ∙ sym (ap (map (λ key. key.1)) (filter-map (λ key. bytes_eq key.0 arch) (λ (entry : Entry). entry.0) (finite.entries machine.records))
-    ∙ map-map (λ key. key.1) (λ (entry : Entry). entry.0) (filter (is_of arch) (finite.entries machine.records)))
 
 in_mapped : (entry : Entry) (rows : List KeyedRecord) → IsIn entry (map entry_of rows) → IsIn entry.1 (map (λ row. row.current) rows)
 in_mapped entry [] there = there

@@ -176,14 +176,6 @@ module _ {S A : Type 0} (g : Ghosts S) (is_saved : Bool) (old new : Held S) wher
       survives = survives_merge g is_saved old new (λ db lacks merging. lacks (has_office is_saved (state g old) merging)) h.survives;
     }
 
-    -- memory ran out for what is made of the answer
-    pub looked_in_vain : {found : A} → LooksUp g query Answer old new (Ok found) → FailsIn g is_saved old new Memory
-    looked_in_vain h = record {
-      cause = λ clean merging inside.
-          fails_here g is_saved old new Memory merging (inr (inr (inl (query, inr (inl (refl, h.same clean (has_office is_saved (state g old) merging)))))));
-      survives = survives_merge g is_saved old new (λ db lacks merging. lacks (has_office is_saved (state g old) merging)) h.survives;
-    }
-
     pub looked_fails : (r : Result A StoreFault) → LooksUp g query Answer old new r → IfErr r (FailsIn g is_saved old new)
     looked_fails (Ok found) h = tt
     looked_fails (Err fault) h = record {
@@ -407,19 +399,26 @@ module _ {S A : Type 0} (g : Ghosts S) (old new : Held S) where
   pub release_fails : (r : Result A StoreFault) → CallsPart g release_text IsSaved Releases old new r → IfErr r (FailsIn g true old new)
   release_fails = part_fails (release_text, inr (inr refl)) true (needs_saved g old new)
 
-  pub save_holds : {x : A} → CallsPart g save_text IsAny Saves old new (Ok x) → HasCleanDisk (state g new) → (tables : Tables) → HoldsTables false tables (state g old)
-      → HoldsTables true (with_savepoint tables) (state g new)
-  save_holds h clean tables holds = saved_now g old new tables false (h.ok clean tt) holds
+  -- where the transaction notes that the savepoint is set
+  pub save_holds : (is_saved : Bool) (r : Result A StoreFault) → OnOk r
+      (is_saved ≡ true) → CallsPart g save_text IsAny Saves old new r → HasCleanDisk (state g new)
+      → (tables : Tables) → HoldsTables false tables (state g old) → OnOk r (HoldsTables is_saved
+      (with_savepoint tables) (state g new))
+  save_holds is_saved (Err fault) noted h clean tables holds = tt
+  save_holds is_saved (Ok x) noted h clean tables holds = subst (λ b. HoldsTables b (with_savepoint tables)
+      (state g new)) (sym noted) (saved_now g old new tables false (h.ok clean tt) holds)
 
-  pub save_runs : {x : A} → CallsPart g save_text IsAny Saves old new (Ok x) → RunsOn g false old true new
-  save_runs h = record {
+  pub save_runs : (is_saved : Bool) (r : Result A StoreFault) → OnOk r
+      (is_saved ≡ true) → CallsPart g save_text IsAny Saves old new r → OnOk r (RunsOn g false old is_saved new)
+  save_runs is_saved (Err fault) noted h = tt
+  save_runs is_saved (Ok x) noted h = subst (λ b. RunsOn g false old b new) (sym noted) (record {
     runs = λ clean merging.
         let made = h.ok clean tt in
         ((with_savepoint merging.0, saved_now g old new merging.0 false made merging.1), inr (goes_on_showing g old new made.shown (others_same (state g old).now)));
     savepoints = λ clean merging others has.
         ((state g old).now, subst (λ (marks : List Savepoint). IsSavedAs marks (state g old).now (state g new)) has (h.ok clean tt).saved);
     survives = survives_merge g false old new (λ db lacks merging. lacks tt) h.survives;
-  }
+  })
 
   pub back_holds : (r : Result A StoreFault) → CallsPart g back_text IsAny GoesBack old new r → HasCleanDisk (state g new) → (tables : Tables) (saved : Contents) → HoldsTables true tables (state g old)
       → tables.saved ≡ Some saved → OnOk r (HoldsTables true (back_at saved tables) (state g new))
@@ -437,15 +436,23 @@ module _ {S A : Type 0} (g : Ghosts S) (old new : Held S) where
     survives = survives_merge g true old new (λ db lacks merging. lacks tt) h.survives;
   }
 
-  pub release_holds : {x : A} → CallsPart g release_text IsSaved Releases old new (Ok x) → HasCleanDisk (state g new) → (tables : Tables) → HoldsTables true tables (state g old)
-      → HoldsTables false (without_savepoint tables) (state g new)
-  release_holds h clean tables holds = released g old new tables (h.ok clean (needs_saved g old new (tables, holds))) holds
+  -- where the transaction notes that the savepoint is given up
+  pub release_holds : (is_saved : Bool) (r : Result A StoreFault) → OnOk r
+      (is_saved ≡ false) → CallsPart g release_text IsSaved Releases old new r → HasCleanDisk (state g new)
+      → (tables : Tables) → HoldsTables true tables (state g old) → OnOk r (HoldsTables is_saved
+      (without_savepoint tables) (state g new))
+  release_holds is_saved (Err fault) noted h clean tables holds = tt
+  release_holds is_saved (Ok x) noted h clean tables holds =
+      subst (λ b. HoldsTables b (without_savepoint tables) (state g new)) (sym noted) (released g old new tables
+      (h.ok clean (needs_saved g old new (tables, holds))) holds)
 
-  pub release_runs : {x : A} → CallsPart g release_text IsSaved Releases old new (Ok x) → RunsOn g true old false new
-  release_runs h = record {
+  pub release_runs : (is_saved : Bool) (r : Result A StoreFault) → OnOk r
+      (is_saved ≡ false) → CallsPart g release_text IsSaved Releases old new r → OnOk r (RunsOn g true old is_saved new)
+  release_runs is_saved (Err fault) noted h = tt
+  release_runs is_saved (Ok x) noted h = subst (λ b. RunsOn g true old b new) (sym noted) (record {
     runs = λ clean merging.
         let made = h.ok clean (needs_saved g old new merging) in
         ((without_savepoint merging.0, released g old new merging.0 made merging.1), inr (goes_on_showing g old new made.shown (others_same (state g old).now)));
     savepoints = λ clean merging others has. (h.ok clean (needs_saved g old new merging)).marks others has.0 has.1;
     survives = survives_merge g true old new (λ db lacks merging. lacks (needs_saved g old new merging)) h.survives;
-  }
+  })

@@ -4,6 +4,7 @@ use Rattle.sqlite_trees.specs.declared.store.Store.{Ghosts}
 use Rattle.sqlite.specs.declared.error.Error.{Error}
 use Rattle.sqlite.specs.declared.error.Error.TheVariants.{SqliteFailure}
 use Rattle.sqlite.specs.declared.error.ErrorCode.TheVariants.{OutOfMemory, SystemIoFailure, DiskFull, TooBig, Closed}
+use Rattle.sqlite.specs.Change.{KeepsRows}
 use Rattle.sqlite.specs.Effect.{Database}
 use Rattle.sqlite.specs.Held.{Held, state}
 use Rattle.sqlite.specs.Order.{Row, column}
@@ -26,7 +27,7 @@ use Rattle.wb_states.proofs.ConsistencyLemmas.{IsConsistent-empty_office}
 use Rattle.wb_rows.specs.Cells.{arch_cells, builder_cells, number}
 use Rattle.wb_rows.proofs.CellsLemmas.{number-same}
 use Rattle.wb_store.specs.Calls.{FailsToRead}
-use Rattle.wb_store.specs.Checks.{AreBadCounts, HasGoodRowsIn, AreBadRecords, AreBadRows, AreOfFormat, FailsToTest, IsFormedArch, IsFormedBuilder}
+use Rattle.wb_store.specs.Checks.{AreBadCounts, AreBadRecords, AreBadRows, AreOfFormat, FailsToTest, IsFormedArch, IsFormedBuilder}
 use Rattle.wb_store.specs.Faults.{fault_of}
 use Rattle.wb_store.specs.Finds.{StaysAs}
 use Rattle.wb_store.specs.Formats.{IsNewer, IsOtherFault, ShowsFormat, TellsOther}
@@ -228,8 +229,8 @@ module _ {S : Type 0} {g : Ghosts S} {old new : Held S} where
       | inr (inl blank) ↦ no_office blank.1.lacks office
       | inr (inr first) ↦ absurd (first_no_office old.schema first.holds.stands.has office)
     ];
-    left = λ clean machine consistent at. elim at [
-      | inl settled ↦ settled_leaves (state g new) (h.passes clean machine consistent settled).1
+    left = λ clean machine at. elim at [
+      | inl settled ↦ λ db may. settled_leaves (state g old) settled db (no_more g old new h.survives office clean db may)
       | inr (inl blank) ↦ no_office blank.1.lacks office
       | inr (inr first) ↦ absurd (first_no_office old.schema first.holds.stands.has office)
     ];
@@ -247,14 +248,15 @@ module _ {S : Type 0} {g : Ghosts S} {old new : Held S} where
       unread = λ tables others none. absurd (others office);
     };
     crash = λ clean is_open some db may. inl (no_more g old new h.survives office clean db may);
+    others = λ clean is_open lacks. no_office lacks office;
     idle = λ clean is_open. idle_stays g old new idle (h.good clean office).2;
   }
   found_office (Err fault) idle office h = record {
     was_clean = h.was_clean;
     limit = h.survives.limit;
     found = λ clean machine consistent at. tt;
-    left = λ clean machine consistent at. elim at [
-      | inl settled ↦ λ db may. inl ((h.fails clean machine consistent settled).0.left db may)
+    left = λ clean machine at. elim at [
+      | inl settled ↦ λ db may. settled_leaves (state g old) settled db (no_more g old new h.survives office clean db may)
       | inr (inl blank) ↦ no_office blank.1.lacks office
       | inr (inr first) ↦ absurd (first_no_office old.schema first.holds.stands.has office)
     ];
@@ -284,6 +286,7 @@ module _ {S : Type 0} {g : Ghosts S} {old new : Held S} where
       unread = λ tables others none. absurd (others office);
     };
     crash = λ clean is_open some db may. inl (no_more g old new h.survives office clean db may);
+    others = λ clean is_open lacks. tt;
     idle = λ clean is_open. idle_kept (state g old) (state g new) idle (h.kept clean office);
   }
     where
@@ -302,7 +305,7 @@ module _ {S : Type 0} {g : Ghosts S} {old new : Held S} where
     was_clean = was_clean (state g old) (state g new) h.survives;
     limit = h.survives.limit;
     found = λ clean machine consistent at. tt;
-    left = λ clean machine consistent at. elim at [
+    left = λ clean machine at. elim at [
       | inl settled ↦ absurd (others settled.holds.stands.has)
       | inr (inl blank) ↦ absurd (tables blank.1.lacks)
       | inr (inr first) ↦ absurd (no_first first.holds.stands.has)
@@ -325,6 +328,7 @@ module _ {S : Type 0} {g : Ghosts S} {old new : Held S} where
       unread = λ some none unread. let told = h.unread unread in (ap Err told.0, told.1);
     };
     crash = λ clean is_open some db may. elim (h.survives.crash clean db may) [ inl was ↦ inl was | inr none ↦ absurd none ];
+    others = λ clean is_open lacks. tt;
     idle = λ clean is_open. idle_by (h.why clean);
   }
     where
@@ -391,7 +395,7 @@ module _ {S : Type 0} {g : Ghosts S} {old new : Held S} (none : LacksOffice old.
       | inr (inr first) ↦ absurd (first_no_lack old.schema first.holds.stands.has none)
       | inr (inl blank) ↦ subst (λ m. AreCountsOf m counts × IsSettled m (state g new)) (sym blank.0) (passed clean blank.1.is_open)
     ];
-    left = λ clean machine consistent at. elim at [
+    left = λ clean machine at. elim at [
       | inl settled ↦ no_office none settled.holds.stands.has
       | inr (inr first) ↦ absurd (first_no_lack old.schema first.holds.stands.has none)
       | inr (inl blank) ↦ subst (λ m. LeavesFound m (state g new)) (sym blank.0) (settled_leaves (state g new) (passed clean blank.1.is_open).1)
@@ -411,6 +415,10 @@ module _ {S : Type 0} {g : Ghosts S} {old new : Held S} (none : LacksOffice old.
     };
     crash = λ clean is_open some db may.
         made_or_left (makes.crash (h.was_clean clean) (room (state g old) none live is_open) db (no_more g mid new h.survives (settled clean is_open).holds.stands.has clean db may));
+    others = λ clean is_open lacks.
+        let has = (settled clean is_open).holds.stands.has in
+        subst (λ (db : Database). KeepsRows old.schema.tables (state g old).now.trees db.trees) (sym (stays-now g mid new (h.good clean has).2))
+        (makes.made (h.was_clean clean) (room (state g old) none live is_open)).1;
     idle = λ clean is_open. (passed clean is_open).1.idle;
   }
     where
@@ -423,7 +431,7 @@ module _ {S : Type 0} {g : Ghosts S} {old new : Held S} (none : LacksOffice old.
     was_clean = λ clean. makes.was_clean (h.was_clean clean);
     limit = h.survives.limit ∙ makes.limit;
     found = λ clean machine consistent at. tt;
-    left = λ clean machine consistent at. elim at [
+    left = λ clean machine at. elim at [
       | inl settled ↦ no_office none settled.holds.stands.has
       | inr (inr first) ↦ absurd (first_no_lack old.schema first.holds.stands.has none)
       | inr (inl blank) ↦ subst (λ m. LeavesFound m (state g new)) (sym blank.0)
@@ -444,6 +452,7 @@ module _ {S : Type 0} {g : Ghosts S} {old new : Held S} (none : LacksOffice old.
     names = names_plain fault (λ clean is_open. plain_later g mid new fault (h.fails clean empty_office IsConsistent-empty_office (settled clean is_open)).1);
     crash = λ clean is_open some db may.
         made_or_left (makes.crash (h.was_clean clean) (room (state g old) none live is_open) db (no_more g mid new h.survives (settled clean is_open).holds.stands.has clean db may));
+    others = λ clean is_open lacks. tt;
     idle = λ clean is_open. (h.fails clean empty_office IsConsistent-empty_office (settled clean is_open)).0.idle;
   }
     where
@@ -456,7 +465,7 @@ module _ {S : Type 0} {g : Ghosts S} {old new : Held S} (none : LacksOffice old.
     was_clean = makes.was_clean;
     limit = makes.limit;
     found = λ clean machine consistent at. tt;
-    left = λ clean machine consistent at. elim at [
+    left = λ clean machine at. elim at [
       | inl settled ↦ no_office none settled.holds.stands.has
       | inr (inr first) ↦ absurd (first_no_lack old.schema first.holds.stands.has none)
       | inr (inl blank) ↦ subst (λ m. LeavesFound m (state g new)) (sym blank.0) (makes.left clean blank.1)
@@ -473,6 +482,7 @@ module _ {S : Type 0} {g : Ghosts S} {old new : Held S} (none : LacksOffice old.
     known = tt;
     names = names_plain fault (λ clean is_open. plain_by fault e Office is);
     crash = λ clean is_open some db may. made_or_left (makes.crash clean (room (state g old) none live is_open) db may);
+    others = λ clean is_open lacks. tt;
     idle = λ clean is_open. makes.idle clean;
   }
 
@@ -491,10 +501,9 @@ leaves_first {machine = machine} s new settled leaves db may = elim (leaves db m
 module _ {S : Type 0} {g : Ghosts S} {old new : Held S} (first : HasFirstOffice old.schema) where
   leaves_some : {result : Result Counts StoreFault} → BringsOver g old new result → HasCleanDisk (state g new) → IsTrue (state g old).is_open → StandsIfFirst (state g old).now → LeavesPrepared (state g old) (state g new)
   leaves_some h clean is_open some db may =
-      let stands = some first in
-      elim (h.crash clean stands.0 (record { is_open = is_open; office = stands.1 }) db may) [
+      elim (h.leaves clean first (λ good none. let stands = some first good none in (stands.0, record { is_open = is_open; office = stands.1 })) db may) [
         | inl was ↦ inl was
-        | inr made ↦ inr (inr (stands.0, stands.1, made))
+        | inr made ↦ inr (inr made)
       ]
 
   -- it is tested and brought over
@@ -507,7 +516,7 @@ module _ {S : Type 0} {g : Ghosts S} {old new : Held S} (first : HasFirstOffice 
       | inr (inl blank) ↦ absurd (first_no_lack old.schema first blank.1.lacks)
       | inr (inr settled) ↦ h.brought clean machine consistent (first_of (state g old) settled)
     ];
-    left = λ clean machine consistent at. elim at [
+    left = λ clean machine at. elim at [
       | inl settled ↦ absurd (first_no_office old.schema first settled.holds.stands.has)
       | inr (inl blank) ↦ absurd (first_no_lack old.schema first blank.1.lacks)
       | inr (inr settled) ↦ leaves_first (state g old) (state g new) settled (h.crash clean machine (first_of (state g old) settled))
@@ -526,13 +535,14 @@ module _ {S : Type 0} {g : Ghosts S} {old new : Held S} (first : HasFirstOffice 
       unread = λ tables others none. absurd (none (format_of_office old.schema first.tables.office_is.has));
     };
     crash = leaves_some h;
+    others = λ clean is_open lacks. absurd (first_no_lack old.schema first lacks);
     idle = λ clean is_open. h.idle clean first;
   }
   first_brought (Err fault) h = record {
     was_clean = h.was_clean;
     limit = h.limit;
     found = λ clean machine consistent at. tt;
-    left = λ clean machine consistent at. elim at [
+    left = λ clean machine at. elim at [
       | inl settled ↦ absurd (first_no_office old.schema first settled.holds.stands.has)
       | inr (inl blank) ↦ absurd (first_no_lack old.schema first blank.1.lacks)
       | inr (inr settled) ↦ leaves_first (state g old) (state g new) settled (h.crash clean machine (first_of (state g old) settled))
@@ -561,6 +571,7 @@ module _ {S : Type 0} {g : Ghosts S} {old new : Held S} (first : HasFirstOffice 
       unread = λ tables others none. absurd (none (format_of_office old.schema first.tables.office_is.has));
     };
     crash = leaves_some h;
+    others = λ clean is_open lacks. tt;
     idle = λ clean is_open. h.idle clean first;
   }
     where
@@ -572,13 +583,13 @@ module _ {S : Type 0} {g : Ghosts S} {old new : Held S} (first : HasFirstOffice 
 
       newer_by : IsNewer (state g old).now → FailsToBring g old new fault → ComesLater g IsNewerFault old new fault
       newer_by newer (inl why) = (why.0, why.1, newer_first (state g why.0) (state g new) fault (stays_first why.1) (subst IsNewer (sym (stays-now g old why.0 why.1)) newer) why.2)
-      newer_by newer (inr (good, why)) = absurd (never_newer One (state g old).now first.tables.office_is.has newer good.counts good.counts_held)
+      newer_by newer (inr (good, none, why)) = absurd (never_newer One (state g old).now first.tables.office_is.has newer good.counts good.counts_held)
 
       told_by : IsTrue (state g old).is_open → StandsIfFirst (state g old).now
           → FailsToBring g old new fault → TellsFormat One (state g old).now fault
       told_by is_open some (inl why) = subst (λ db. TellsFormat One db fault) (stays-now g old why.0 why.1) (told_first (state g why.0) (state g new) fault (stays_first why.1) why.2)
-      told_by is_open some (inr (good, why)) =
-          let stands = some first in
+      told_by is_open some (inr (good, none, why)) =
+          let stands = some first good none in
           let upgrade = why stands.0 (record { is_open = is_open; office = stands.1 }) in
           plain_tells One (state g old).now fault (plain_upgrade g stands.0 upgrade.0 fault upgrade.2)
 

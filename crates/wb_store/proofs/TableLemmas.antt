@@ -76,6 +76,24 @@ answer_same {X} columns q params skips from_start unlimited xs rows answer held 
     subst (IsPermutation (map (λ x. (shows q params (columns x)).1) chosen)) (sym (whole_answer q params rows answer a from_start unlimited))
     (subst (λ l. IsPermutation l (map (λ (o : Output). o.1) a.ordered)) (map-map (λ (o : Output). o.1) (λ x. shows q params (columns x)) chosen) same)
 
+-- an answer without LIMIT shows those that are chosen, if they ascend in the query's order
+pub rising_shown : {X : Type 0} (columns : X → Row) (q : TableQuery)
+    (params : Row) → SkipsRowid q params → q.offset ≡ none_skipped → q.limit ≡ no_limit → (xs : List X)
+    (rows answer : List Row)
+    → HoldsRows (map columns xs) rows → Answers q params rows answer → (chosen : List X) → IsAscending
+    (λ x y. IsBefore q params (columns x) (columns y)) chosen
+    → IsPermutation chosen (filter (λ x. passes q params (columns x)) xs) → answer ≡ map (λ x. (shows q params
+    (columns x)).1) chosen
+rising_shown {X} columns q params skips from_start unlimited xs rows answer held a chosen up same =
+    let output_of : X → Output = λ x. shows q params (columns x) in
+    let ordered : a.ordered ≡ map output_of chosen =
+    rising_order q params rows answer a from_start (map output_of chosen) (ascending-map (λ x y. output_cmp
+    (query_of q) x y ≡ Less) output_of chosen up)
+    (IsPermutation-trans _ _ _ (IsPermutation-map output_of chosen (filter (λ x. passes q params
+    (columns x)) xs) same) (outputs_same columns q params skips xs rows held)) in
+    whole_answer q params rows answer a from_start unlimited ∙ ap (map (λ (o : Output). o.1)) ordered ∙ map-map (λ
+    (o : Output). o.1) output_of chosen
+
 -- a query on a table that holds the columns of these, and shows all columns
 module _ {X : Type 0} (columns : X → Row) (q : TableQuery) (params : Row) (skips : SkipsRowid q params) (all_shown : (x : X) → (shows q params (columns x)).1 ≡ columns x)
     (from_start : q.offset ≡ none_skipped) (xs : List X) (rows answer : List Row) (held : HoldsRows (map columns xs) rows) (a : Answers q params rows answer) where

@@ -11,7 +11,9 @@ use Rattle.wb_states.specs.Lookups.{entry_of}
 use Rattle.wb_states.specs.Machine.{IsConsistent, Machine}
 use Rattle.wb_store.specs.Finds.{StaysAs}
 use Rattle.wb_store.specs.Opening.{AreCountsOf, ChecksOver, FailsOnReading, FailsToBring, HasGoodRowsWith, HasNoScratchRows, LacksMemoryOrQuery}
-use Rattle.wb_store.specs.Settled.{IsSettled}
+use Rattle.sqlite.specs.Tree.{Trees}
+use Rattle.wb_store.specs.Checks.{HasGoodRowsIn}
+use Rattle.wb_store.specs.Settled.{IsFirstOffice, IsSettled, StandsForTrees}
 use Rattle.wb_store.specs.Stands.{StandsForFirst}
 use Rattle.wb_store.specs.Upgrading.{AreRecordsOf, FailsToUpgrade, HasFirst, LeavesOrUpgrades}
 use Rattle.wb_store.specs.declared.format.Format.TheVariants.{One}
@@ -23,7 +25,8 @@ ReadsOffice g = ChecksOver g HasFirstOffice StandsForFirst (λ _. ⊤) (λ db re
 
 -- an office of the first schema is tested and brought over: if that succeeds, it is settled at its state in the second, with its counts; it fails only if memory ran
 -- out, a query failed, or it could not be brought over; whatever it answers, a crash leaves what it could leave before, or the state in the second; an office that
--- has a row that is not good is refused by one of its tests, before anything is written; and no transaction is under way then. The limit of steps stays
+-- has a row that is not good, or one that a merge left, is refused by one of its tests, before anything is written, so that a crash leaves no more; and no transaction
+-- is under way then. The limit of steps stays
 pub record BringsOver {S : Type 0} (g : Ghosts S) (old new : Held S) (result : Result Counts StoreFault) : Type 0 where
   pub was_clean : HasCleanDisk (state g new) → HasCleanDisk (state g old)
   pub limit : (state g new).step_limit ≡ (state g old).step_limit
@@ -34,5 +37,8 @@ pub record BringsOver {S : Type 0} (g : Ghosts S) (old new : Held S) (result : R
   pub refuses : HasCleanDisk (state g new) → HasFirstOffice old.schema
       → IfErr result (FailsToBring g old new)
   pub crash : HasCleanDisk (state g new) → (machine : Machine) → HasFirst machine (state g old) → LeavesOrUpgrades machine (state g old) (state g new)
+  pub leaves : HasCleanDisk (state g new) → HasFirstOffice old.schema
+      → (HasGoodRowsIn One (state g old).now → HasNoScratchRows (state g old).now → (machine : Machine) × HasFirst machine (state g old))
+      → (db : Trees) → (state g new).may_leave db → (state g old).may_leave db ⊎ ((machine : Machine) × IsFirstOffice machine (state g old).now × StandsForTrees machine db)
   pub good : HasCleanDisk (state g new) → HasFirstOffice old.schema → IfOk result (λ counts. HasGoodRowsWith One (state g old).now counts × HasNoScratchRows (state g old).now)
   pub idle : HasCleanDisk (state g new) → HasFirstOffice old.schema → (state g new).in_transaction ≡ false

@@ -10,6 +10,7 @@ pub mod Lookups
 pub mod MergeLaws
 pub mod MergeRuns
 pub mod Merging
+pub mod Noted
 pub mod Opened
 pub mod Opening
 pub mod Others

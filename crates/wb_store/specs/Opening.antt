@@ -2,6 +2,7 @@
 use Rattle.std.specs.Prelude.{◌≡◌, ◌⊎◌, ⊤, false, IsTrue, List, ℕ, [], Result, Err, IfOk, IfErr, IsErrAnd, OnOk, OnErr}
 use Rattle.sqlite_trees.specs.declared.store.Store.{Ghosts}
 use Rattle.sqlite.specs.declared.error.Error.{Error}
+use Rattle.sqlite.specs.Change.{KeepsRows}
 use Rattle.sqlite.specs.Effect.{Database}
 use Rattle.sqlite.specs.Held.{Held, state}
 use Rattle.sqlite.specs.Schema.{Schema}
@@ -181,12 +182,13 @@ ChecksFirst g = ChecksOver g HasFirstOffice StandsForFirst (λ _. ⊤) (λ db co
 abbrev pub FailsOnReading : State → State → StoreFault → Type 0
 FailsOnReading old new fault = FailsOnFirst old new fault ⊎ (HasGoodRowsIn One old.now × FailsToReadFirst old new fault)
 
--- why an office of the first schema is not brought over: it is not read, after tests that left it as it was; or all its rows are good, and a statement or the
--- commit of the transaction fails
+-- why an office of the first schema is not brought over: it is not read, after tests that left it as it was; or all its rows are good, no merge left one, and a
+-- statement or the commit of the transaction fails
 abbrev pub FailsToBring : {S : Type 0} → Ghosts S → Held S → Held S → StoreFault → Type 0
 FailsToBring {S} g old new fault =
     ComesLater g FailsOnReading old new fault
-    ⊎ (HasGoodRowsIn One (state g old).now × ((machine : Machine) → HasFirst machine (state g old) → (at : Held S) × StaysAs g old at × FailsToUpgrade g machine at fault))
+    ⊎ (HasGoodRowsIn One (state g old).now × HasNoScratchRows (state g old).now
+    × ((machine : Machine) → HasFirst machine (state g old) → (at : Held S) × StaysAs g old at × FailsToUpgrade g machine at fault))
 
 -- the tests of a whole office: if they succeed, its rows are good, no row is left of a merge or an upgrade, and nothing is changed; a settled connection passes them, and
 -- stays settled, or goes back to its state if memory ran out or a query failed; and no fault is given but that of a test
@@ -218,9 +220,9 @@ LacksAfter {S} g old new fault = (at : Held S) × ((old ≡ at) ⊎ IsMadeAt g o
 abbrev pub IsFaultOfUpgrade : {S : Type 0} → Ghosts S → Machine → Held S → StoreFault → Type 0
 IsFaultOfUpgrade {S} g machine old fault = HasFirst machine (state g old) × ((at : Held S) × StaysAs g old at × FailsToUpgrade g machine at fault)
 
--- a database that has the tables of the first schema stands for a state
+-- a database that has the tables of the first schema, with good rows, and in which no merge left one, stands for a state
 abbrev pub StandsIfFirst : Database → Type 0
-StandsIfFirst db = HasFirstOffice db.schema → (machine : Machine) × IsFirstOffice machine db
+StandsIfFirst db = HasFirstOffice db.schema → HasGoodRowsIn One db → HasNoScratchRows db → (machine : Machine) × IsFirstOffice machine db
 
 -- why a database is refused that shows a format above 2: that a newer program wrote it, and nothing is changed; or the query for the format failed, or
 -- that for the row of an office with the tables of format 2
@@ -241,13 +243,13 @@ pub record NamesFault {S : Type 0} (g : Ghosts S) (old new : Held S) (result : R
 -- an office is found, or made in a database that lacks it, each perhaps beside tables of others: if that succeeds, it is settled at its state, with its
 -- counts; whatever it answers, a crash leaves that state; it fails only if it could not be made, or if memory ran out or a query failed; an office
 -- that is found, in either schema, has good rows, or is refused by one of its tests, before anything is written; and whatever it answers over an open
--- connection, a crash leaves what it could leave before, or an empty office of a database that lacked one, or the same state in the second schema; no
--- transaction is under way, and the limit of steps stays
+-- connection, a crash leaves what it could leave before, or an empty office of a database that lacked one, or the same state in the second schema; where an
+-- office is made, the tables that were there keep their rows; no transaction is under way, and the limit of steps stays
 pub record PreparesOffice {S : Type 0} (g : Ghosts S) (old new : Held S) (result : Result Counts StoreFault) : Type 0 where
   pub was_clean : HasCleanDisk (state g new) → HasCleanDisk (state g old)
   pub found : HasCleanDisk (state g new) → (machine : Machine) → IsConsistent machine → IsFoundAt machine (state g old)
       → IfOk result (λ counts. AreCountsOf machine counts × IsSettled machine (state g new))
-  pub left : HasCleanDisk (state g new) → (machine : Machine) → IsConsistent machine → IsFoundAt machine (state g old) → LeavesFound machine (state g new)
+  pub left : HasCleanDisk (state g new) → (machine : Machine) → IsFoundAt machine (state g old) → LeavesFound machine (state g new)
   pub fails : HasCleanDisk (state g new) → (machine : Machine) → IsConsistent machine → IsFoundAt machine (state g old)
       → IfErr result (λ fault. IsFaultOfMaking g old fault ⊎ (LacksAfter g old new fault ⊎ IsFaultOfUpgrade g machine old fault))
   pub good : HasCleanDisk (state g new) → HasOffice old.schema
@@ -259,6 +261,8 @@ pub record PreparesOffice {S : Type 0} (g : Ghosts S) (old new : Held S) (result
   pub known : IfOk result (λ counts. LacksOffice old.schema ⊎ (HasOffice old.schema ⊎ HasFirstOffice old.schema))
   pub names : NamesFault g old new result
   pub crash : HasCleanDisk (state g new) → IsTrue (state g old).is_open → StandsIfFirst (state g old).now → LeavesPrepared (state g old) (state g new)
+  pub others : HasCleanDisk (state g new) → IsTrue (state g old).is_open → LacksOffice old.schema
+      → OnOk result (KeepsRows old.schema.tables (state g old).now.trees (state g new).now.trees)
   pub idle : HasCleanDisk (state g new) → IsTrue (state g old).is_open → (state g new).in_transaction ≡ false
   pub limit : new.step_limit ≡ old.step_limit
 

@@ -45,10 +45,11 @@ pub data OfficeQuery : Type 0 where
   Builders : OfficeQuery
   PairsOf : List ℕ → OfficeQuery
   Pair : Key → OfficeQuery
-  -- all records, those of an architecture, the states of these, those of it in a state, its queue and the head of that
+  -- all records, those of an architecture, the states and the source packages of these, those of it in a state, its queue and the head of that
   Records : OfficeQuery
   RecordsOf : List ℕ → OfficeQuery
   StatesOf : List ℕ → OfficeQuery
+  NamesOf : List ℕ → OfficeQuery
   InState : List ℕ → State → OfficeQuery
   QueueOf : List ℕ → OfficeQuery
   HeadOf : List ℕ → OfficeQuery
@@ -83,6 +84,7 @@ table_asked (Pair pair) = on.Builder
 table_asked Records = on.SourceRecord
 table_asked (RecordsOf arch) = on.SourceRecord
 table_asked (StatesOf arch) = on.SourceRecord
+table_asked (NamesOf arch) = on.SourceRecord
 table_asked (InState arch state) = on.SourceRecord
 table_asked (QueueOf arch) = on.SourceRecord
 table_asked (HeadOf arch) = on.SourceRecord
@@ -112,6 +114,7 @@ query_asked (Pair pair) = sql.pair_of_builder
 query_asked Records = sql.all_records
 query_asked (RecordsOf arch) = sql.records_of_arch
 query_asked (StatesOf arch) = sql.states_of_arch
+query_asked (NamesOf arch) = sql.names_of_arch
 query_asked (InState arch state) = sql.records_in_state
 query_asked (QueueOf arch) = sql.queue_of
 query_asked (HeadOf arch) = sql.head_of
@@ -142,6 +145,7 @@ given_to (Pair pair) = Text pair.0 ∷ Text pair.1 ∷ []
 given_to Records = []
 given_to (RecordsOf arch) = Text arch ∷ []
 given_to (StatesOf arch) = Text arch ∷ []
+given_to (NamesOf arch) = Text arch ∷ []
 given_to (InState arch state) = Text arch ∷ number (code_of state) ∷ []
 given_to (QueueOf arch) = Text arch ∷ number 0 ∷ []
 given_to (HeadOf arch) = Text arch ∷ number 0 ∷ []

@@ -10,34 +10,35 @@ ghost use Rattle.wb_store.specs.Lookups.{AreArchs, FirstWords};
 ghost use Rattle.wb_store.specs.Queries as ask;
 
 use crate::reading::{archs_in, rows_of};
+use crate::store::Store;
 use deb_text::Text;
-use sqlite::{Alter, Connection, Row, params};
+use sqlite::{Alter, Row, params};
 use wb_sql::statements;
 use wb_states::{OsCpu, StoreFault, Table};
 
-/// The architectures of the office with their words, by name.
-pub(crate) fn archs<S: Alter>(conn: &mut Connection<S>) -> Result<Vec<(Text, OsCpu)>, StoreFault>
-    ensures looks_up { LooksUp S.Store ask.Archs (λ machine archs.
-        archs.items ≡ map.entries machine.archs) conn.old conn.new result }
-{
-    archs_in(rows_of(conn, Table::Arch, statements::all_archs(), &[])?)
-}
+impl<S: Alter + Drop> Store<S> {
+    /// The architectures of the office with their words, by name.
+    pub fn archs(&mut self) -> Result<Vec<(Text, OsCpu)>, StoreFault>
+        ensures looks_up { LooksUp S.Store ask.Archs (λ machine archs.
+            archs.items ≡ map.entries machine.archs) self.old self.new result }
+    {
+        let rows = rows_of(&mut self.conn, Table::Arch, statements::all_archs(), &[])?;
+        archs_in(rows)
+    }
 
-/// The words of the architecture, or none if it was never added.
-pub(crate) fn arch<S: Alter>(
-    conn: &mut Connection<S>,
-    name: &Text,
-) -> Result<Option<OsCpu>, StoreFault>
-    ensures looks_up { LooksUp S.Store (ask.ArchNamed name.now) (λ machine found.
-        found ≡ map.get machine.archs name.now) conn.old conn.new result }
-{
-    let rows = rows_of(
-        conn,
-        Table::Arch,
-        statements::arch_words(),
-        params![name.as_str()],
-    )?;
-    words_in(rows)
+    /// The words of the architecture, or none if it was never added.
+    pub fn arch(&mut self, name: &Text) -> Result<Option<OsCpu>, StoreFault>
+        ensures looks_up { LooksUp S.Store (ask.ArchNamed name.now) (λ machine found.
+            found ≡ map.get machine.archs name.now) self.old self.new result }
+    {
+        let rows = rows_of(
+            &mut self.conn,
+            Table::Arch,
+            statements::arch_words(),
+            params![name.as_str()],
+        )?;
+        words_in(rows)
+    }
 }
 
 /// The words of the first of the architectures in these rows. The table is damaged if a row is no architecture.

@@ -11,45 +11,43 @@ ghost use Rattle.wb_store.specs.Queries as ask;
 
 use crate::fault::unfit;
 use crate::reading::rows_of;
+use crate::store::Store;
 use deb_text::Text;
-use sqlite::{Alter, Connection, Row, params};
+use sqlite::{Alter, Row, params};
 use wb_rows::builder_of;
 use wb_sql::statements;
 use wb_states::{StoreFault, Table};
 
-/// Whether the builder was added for the architecture.
-pub(crate) fn has_builder<S: Alter>(
-    conn: &mut Connection<S>,
-    builder: &Text,
-    arch: &Text,
-) -> Result<bool, StoreFault>
-    ensures looks_up { LooksUp S.Store (ask.Pair (builder.now, arch.now)) (λ machine is_there.
-        is_there ≡ set.contains machine.builders (builder.now, arch.now)) conn.old conn.new result }
-{
-    let pairs = rows_of(
-        conn,
-        Table::Builder,
-        statements::builder_pair(),
-        params![builder.as_str(), arch.as_str()],
-    )?;
-    Ok(!pairs.is_empty())
-}
+impl<S: Alter + Drop> Store<S> {
+    /// Whether the builder was added for the architecture.
+    pub fn has_builder(&mut self, builder: &Text, arch: &Text) -> Result<bool, StoreFault>
+        ensures looks_up { LooksUp S.Store (ask.Pair (builder.now, arch.now)) (λ machine is_there.
+            is_there ≡ set.contains machine.builders (builder.now, arch.now))
+            self.old self.new result }
+    {
+        let pairs = rows_of(
+            &mut self.conn,
+            Table::Builder,
+            statements::builder_pair(),
+            params![builder.as_str(), arch.as_str()],
+        )?;
+        Ok(!pairs.is_empty())
+    }
 
-/// The architectures for which the builder was added, by name.
-pub(crate) fn archs_of<S: Alter>(
-    conn: &mut Connection<S>,
-    builder: &Text,
-) -> Result<Vec<Text>, StoreFault>
-    ensures looks_up { LooksUp S.Store (ask.PairsOf builder.now) (λ machine archs. IsConsistent machine
-        → archs.items ≡ archs_of machine builder.now) conn.old conn.new result }
-{
-    let rows = rows_of(
-        conn,
-        Table::Builder,
-        statements::builder_pairs(),
-        params![builder.as_str()],
-    )?;
-    archs_in(rows)
+    /// The architectures for which the builder was added, by name: none if it was never added.
+    pub fn archs_of(&mut self, builder: &Text) -> Result<Vec<Text>, StoreFault>
+        ensures looks_up { LooksUp S.Store (ask.PairsOf builder.now) (λ machine archs.
+            IsConsistent machine → archs.items ≡ archs_of machine builder.now)
+            self.old self.new result }
+    {
+        let rows = rows_of(
+            &mut self.conn,
+            Table::Builder,
+            statements::builder_pairs(),
+            params![builder.as_str()],
+        )?;
+        archs_in(rows)
+    }
 }
 
 /// The architectures in these rows of builders. The table is damaged if a row is no builder.

@@ -7,22 +7,22 @@ ghost use Rattle.wb_store.specs.Calls.{LooksUp};
 ghost use Rattle.wb_store.specs.Queries as ask;
 
 use crate::reading::{rows_of, states_in};
+use crate::store::Store;
 use deb_text::Text;
 use sqlite::{Alter, Connection, params};
 use wb_sql::statements;
 use wb_states::{State, StateCounts, StoreFault, Table};
 
-/// How many records of the architecture are in each state: none in any if it was never added. No record is read, only
-/// the index that has their states.
-pub(crate) fn counts<S: Alter>(
-    conn: &mut Connection<S>,
-    arch: &Text,
-) -> Result<StateCounts, StoreFault>
-    ensures looks_up { LooksUp S.Store (ask.StatesOf arch.now) (λ machine counts.
-        counts ≡ counts_of machine arch.now) conn.old conn.new result }
-{
-    let states = states_of(conn, arch)?;
-    Ok(counts_in(&states))
+impl<S: Alter + Drop> Store<S> {
+    /// How many records of the architecture are in each state: none in any if it was never added. No record is read,
+    /// only the index that has their states.
+    pub fn counts(&mut self, arch: &Text) -> Result<StateCounts, StoreFault>
+        ensures looks_up { LooksUp S.Store (ask.StatesOf arch.now) (λ machine counts.
+            counts ≡ counts_of machine arch.now) self.old self.new result }
+    {
+        let states = states_of(&mut self.conn, arch)?;
+        Ok(counts_in(&states))
+    }
 }
 
 /// The state of each record of the architecture, in some order.

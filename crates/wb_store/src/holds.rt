@@ -6,20 +6,24 @@ ghost use Rattle.wb_store.specs.Calls.{LooksUp};
 ghost use Rattle.wb_store.specs.Queries as ask;
 
 use crate::reading::records;
+use crate::store::Store;
 use deb_text::Text;
-use sqlite::{Alter, Connection, params};
+use sqlite::{Alter, params};
 use wb_sql::statements;
 use wb_states::{KeyedRecord, StoreFault};
 
-/// The records that the builder holds, of all architectures, by take number: none if it was never added.
-pub(crate) fn held_by<S: Alter>(
-    conn: &mut Connection<S>,
-    builder: &Text,
-) -> Result<Vec<KeyedRecord>, StoreFault>
-    ensures looks_up { LooksUp S.Store (ask.HeldBy builder.now) (λ machine rows.
-        each entry_of rows.items ≡ held_of machine builder.now) conn.old conn.new result }
-{
-    let mut rows = records(conn, statements::held_by(), params![builder.as_str()])?;
-    rows.sort_by_key(|row| row.current.take.unwrap_or(0))?;
-    Ok(rows)
+impl<S: Alter + Drop> Store<S> {
+    /// The records that the builder holds, of all architectures, by take number: none if it was never added.
+    pub fn held_by(&mut self, builder: &Text) -> Result<Vec<KeyedRecord>, StoreFault>
+        ensures looks_up { LooksUp S.Store (ask.HeldBy builder.now) (λ machine rows.
+            each entry_of rows.items ≡ held_of machine builder.now) self.old self.new result }
+    {
+        let mut rows = records(
+            &mut self.conn,
+            statements::held_by(),
+            params![builder.as_str()],
+        )?;
+        rows.sort_by_key(|row| row.current.take.unwrap_or(0))?;
+        Ok(rows)
+    }
 }

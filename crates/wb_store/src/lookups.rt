@@ -1,175 +1,43 @@
-//! What is looked up in the store of an office, outside a transaction and in one.
+//! What is looked up in a transaction of an office: what its store looks up, with what the transaction wrote.
 //!
 //! The faults of each look-up are those of its query, on the table that it asks, `Memory` if memory runs out for the
 //! answer, and `Damaged` with row 0 if a row is not one of an office. The database stays as it is; only a failed query
 //! may take a transaction back (this project's own).
 ghost use Rattle.std.specs.Prelude.{◌≡◌, map as each};
 ghost use Rattle.std.specs.FinMap as map;
-ghost use Rattle.std.specs.FinSet as set;
 ghost use Rattle.std.specs.Option.{option_map};
 ghost use Rattle.wb_states.specs.Holds.{held_of, taken_as};
-ghost use Rattle.wb_states.specs.Lookups.{counts_of, entry_of, rows_in, rows_of};
+ghost use Rattle.wb_states.specs.Lookups.{counts_of, entry_of, rows_of};
 ghost use Rattle.wb_states.specs.Machine.{IsConsistent, archs_of};
 ghost use Rattle.wb_states.specs.Queue.{head_of, queue_of};
 ghost use Rattle.wb_store.specs.Calls.{LooksUp};
+ghost use Rattle.wb_store.specs.Noted.{KeepsMerge};
 ghost use Rattle.wb_store.specs.Queries as ask;
 
-use crate::store::Store;
 use crate::writing::Writing;
-use crate::{architectures, builders, counts, holds, queue, records};
 use deb_text::Text;
 use sqlite::Alter;
-use wb_states::{Counts, KeyedRecord, OsCpu, Record, State, StateCounts, StoreFault};
-
-impl<S: Alter + Drop> Store<S> {
-    /// The architectures of the office with their words, by name.
-    pub fn archs(&mut self) -> Result<Vec<(Text, OsCpu)>, StoreFault>
-        ensures looks_up { LooksUp S.Store ask.Archs (λ machine archs. archs.items ≡ map.entries machine.archs)
-            self.old self.new result }
-    {
-        architectures::archs(&mut self.conn)
-    }
-
-    /// The words of the architecture, or none if it was never added.
-    pub fn arch(&mut self, name: &Text) -> Result<Option<OsCpu>, StoreFault>
-        ensures looks_up { LooksUp S.Store (ask.ArchNamed name.now) (λ machine found. found ≡ map.get machine.archs name.now)
-            self.old self.new result }
-    {
-        architectures::arch(&mut self.conn, name)
-    }
-
-    /// Whether the builder was added for the architecture.
-    pub fn has_builder(&mut self, builder: &Text, arch: &Text) -> Result<bool, StoreFault>
-        ensures looks_up { LooksUp S.Store (ask.Pair (builder.now, arch.now)) (λ machine is_there. is_there ≡ set.contains machine.builders (builder.now, arch.now))
-            self.old self.new result }
-    {
-        builders::has_builder(&mut self.conn, builder, arch)
-    }
-
-    /// The architectures for which the builder was added, by name: none if it was never added.
-    pub fn archs_of(&mut self, builder: &Text) -> Result<Vec<Text>, StoreFault>
-        ensures looks_up { LooksUp S.Store (ask.PairsOf builder.now) (λ machine archs. IsConsistent machine → archs.items ≡ archs_of machine builder.now)
-            self.old self.new result }
-    {
-        builders::archs_of(&mut self.conn, builder)
-    }
-
-    /// The two counts of the office: the greatest take number that was given, and how many commands were accepted.
-    pub fn office_row(&mut self) -> Result<Counts, StoreFault>
-        ensures looks_up { LooksUp S.Store ask.Office (λ machine counts. (counts.handed ≡ machine.handed) × (counts.accepted ≡ machine.accepted))
-            self.old self.new result }
-    {
-        records::office_row(&mut self.conn)
-    }
-
-    /// How many records of the architecture are in each state: none in any if it was never added. No record is read,
-    /// only the index that has their states.
-    pub fn counts(&mut self, arch: &Text) -> Result<StateCounts, StoreFault>
-        ensures looks_up { LooksUp S.Store (ask.StatesOf arch.now) (λ machine counts. counts ≡ counts_of machine arch.now)
-            self.old self.new result }
-    {
-        counts::counts(&mut self.conn, arch)
-    }
-
-    /// The record of the source package on the architecture, or none if it has no record there.
-    pub fn get(&mut self, arch: &Text, source: &Text) -> Result<Option<Record>, StoreFault>
-        ensures looks_up { LooksUp S.Store (ask.RecordAt (arch.now, source.now)) (λ machine found. found ≡ map.get machine.records (arch.now, source.now))
-            self.old self.new result }
-    {
-        records::get(&mut self.conn, arch, source)
-    }
-
-    /// The record that is held under the take number, or none if no record is, as for a number that was never
-    /// given.
-    pub fn by_take(&mut self, take_number: u64) -> Result<Option<KeyedRecord>, StoreFault>
-        ensures looks_up { LooksUp S.Store (ask.TakenAs take_number) (λ machine found. IsConsistent machine → option_map entry_of found ≡ taken_as machine take_number)
-            self.old self.new result }
-    {
-        records::by_take(&mut self.conn, take_number)
-    }
-
-    /// The records of the architecture, by the names of their source packages: none if it was never added.
-    pub fn all_of(&mut self, arch: &Text) -> Result<Vec<KeyedRecord>, StoreFault>
-        ensures looks_up { LooksUp S.Store (ask.RecordsOf arch.now) (λ machine rows. each entry_of rows.items ≡ rows_of machine arch.now)
-            self.old self.new result }
-    {
-        records::all_of(&mut self.conn, arch)
-    }
-
-    /// The records of the architecture that are in the state, by the names of their source packages: none if it was
-    /// never added.
-    pub fn in_state(&mut self, arch: &Text, state: State) -> Result<Vec<KeyedRecord>, StoreFault>
-        ensures looks_up { LooksUp S.Store (ask.InState arch.now state) (λ machine rows. each entry_of rows.items ≡ rows_in machine arch.now state)
-            self.old self.new result }
-    {
-        records::in_state(&mut self.conn, arch, state)
-    }
-
-    /// The records that the builder holds, of all architectures, by take number: none if it was never added.
-    pub fn held_by(&mut self, builder: &Text) -> Result<Vec<KeyedRecord>, StoreFault>
-        ensures looks_up { LooksUp S.Store (ask.HeldBy builder.now) (λ machine rows. each entry_of rows.items ≡ held_of machine builder.now)
-            self.old self.new result }
-    {
-        holds::held_by(&mut self.conn, builder)
-    }
-
-    /// The head of the architecture's queue, which is built next, or none if no source package of the architecture
-    /// waits for a builder (wanna-build's states page).
-    pub fn head(&mut self, arch: &Text) -> Result<Option<KeyedRecord>, StoreFault>
-        ensures looks_up { LooksUp S.Store (ask.HeadOf arch.now) (λ machine found. IsConsistent machine → option_map entry_of found ≡ head_of machine arch.now)
-            self.old self.new result }
-    {
-        queue::head(&mut self.conn, arch)
-    }
-
-    /// The architecture's queue: its records that wait for a builder, in the order in which they are built (wanna-
-    /// build's states page).
-    pub fn queue_of(&mut self, arch: &Text) -> Result<Vec<KeyedRecord>, StoreFault>
-        ensures looks_up { LooksUp S.Store (ask.QueueOf arch.now) (λ machine rows. IsConsistent machine → each entry_of rows.items ≡ queue_of machine arch.now)
-            self.old self.new result }
-    {
-        queue::queue_of(&mut self.conn, arch)
-    }
-}
+use wb_states::{Counts, KeyedRecord, OsCpu, Record, StateCounts, StoreFault};
 
 impl<S: Alter + Drop> Writing<'_, S> {
-    /// The architectures of the office with their words, by name. It sees what the transaction wrote.
-    pub fn archs(&mut self) -> Result<Vec<(Text, OsCpu)>, StoreFault>
-        ensures looks_up { LooksUp S.Store ask.Archs (λ machine archs. archs.items ≡ map.entries machine.archs)
-            self.old.store.now self.new.store.now result }
-        ensures same_reference { self.new.store.ghost_name ≡ self.old.store.ghost_name }
-        ensures same_merge { (self.new.is_saved ≡ self.old.is_saved) × (self.new.last_place ≡ self.old.last_place) }
-    {
-        self.store.archs()
-    }
-
     /// The words of the architecture, or none if it was never added. It sees what the transaction wrote.
     pub fn arch(&mut self, name: &Text) -> Result<Option<OsCpu>, StoreFault>
-        ensures looks_up { LooksUp S.Store (ask.ArchNamed name.now) (λ machine found. found ≡ map.get machine.archs name.now)
-            self.old.store.now self.new.store.now result }
+        ensures looks_up { LooksUp S.Store (ask.ArchNamed name.now) (λ machine found.
+            found ≡ map.get machine.archs name.now) self.old.store.now self.new.store.now result }
         ensures same_reference { self.new.store.ghost_name ≡ self.old.store.ghost_name }
-        ensures same_merge { (self.new.is_saved ≡ self.old.is_saved) × (self.new.last_place ≡ self.old.last_place) }
+        ensures same_merge { KeepsMerge self.old self.new }
     {
         self.store.arch(name)
-    }
-
-    /// Whether the builder was added for the architecture. It sees what the transaction wrote.
-    pub fn has_builder(&mut self, builder: &Text, arch: &Text) -> Result<bool, StoreFault>
-        ensures looks_up { LooksUp S.Store (ask.Pair (builder.now, arch.now)) (λ machine is_there. is_there ≡ set.contains machine.builders (builder.now, arch.now))
-            self.old.store.now self.new.store.now result }
-        ensures same_reference { self.new.store.ghost_name ≡ self.old.store.ghost_name }
-        ensures same_merge { (self.new.is_saved ≡ self.old.is_saved) × (self.new.last_place ≡ self.old.last_place) }
-    {
-        self.store.has_builder(builder, arch)
     }
 
     /// The architectures for which the builder was added, by name: none if it was never added. It sees what the
     /// transaction wrote.
     pub fn archs_of(&mut self, builder: &Text) -> Result<Vec<Text>, StoreFault>
-        ensures looks_up { LooksUp S.Store (ask.PairsOf builder.now) (λ machine archs. IsConsistent machine → archs.items ≡ archs_of machine builder.now)
+        ensures looks_up { LooksUp S.Store (ask.PairsOf builder.now) (λ machine archs.
+            IsConsistent machine → archs.items ≡ archs_of machine builder.now)
             self.old.store.now self.new.store.now result }
         ensures same_reference { self.new.store.ghost_name ≡ self.old.store.ghost_name }
-        ensures same_merge { (self.new.is_saved ≡ self.old.is_saved) × (self.new.last_place ≡ self.old.last_place) }
+        ensures same_merge { KeepsMerge self.old self.new }
     {
         self.store.archs_of(builder)
     }
@@ -177,10 +45,11 @@ impl<S: Alter + Drop> Writing<'_, S> {
     /// The two counts of the office: the greatest take number that was given, and how many commands were accepted.
     /// It sees what the transaction wrote.
     pub fn office_row(&mut self) -> Result<Counts, StoreFault>
-        ensures looks_up { LooksUp S.Store ask.Office (λ machine counts. (counts.handed ≡ machine.handed) × (counts.accepted ≡ machine.accepted))
+        ensures looks_up { LooksUp S.Store ask.Office (λ machine counts.
+            (counts.handed ≡ machine.handed) × (counts.accepted ≡ machine.accepted))
             self.old.store.now self.new.store.now result }
         ensures same_reference { self.new.store.ghost_name ≡ self.old.store.ghost_name }
-        ensures same_merge { (self.new.is_saved ≡ self.old.is_saved) × (self.new.last_place ≡ self.old.last_place) }
+        ensures same_merge { KeepsMerge self.old self.new }
     {
         self.store.office_row()
     }
@@ -188,10 +57,10 @@ impl<S: Alter + Drop> Writing<'_, S> {
     /// How many records of the architecture are in each state: none in any if it was never added. No record is read,
     /// only the index that has their states. It sees what the transaction wrote.
     pub fn counts(&mut self, arch: &Text) -> Result<StateCounts, StoreFault>
-        ensures looks_up { LooksUp S.Store (ask.StatesOf arch.now) (λ machine counts. counts ≡ counts_of machine arch.now)
-            self.old.store.now self.new.store.now result }
+        ensures looks_up { LooksUp S.Store (ask.StatesOf arch.now) (λ machine counts.
+            counts ≡ counts_of machine arch.now) self.old.store.now self.new.store.now result }
         ensures same_reference { self.new.store.ghost_name ≡ self.old.store.ghost_name }
-        ensures same_merge { (self.new.is_saved ≡ self.old.is_saved) × (self.new.last_place ≡ self.old.last_place) }
+        ensures same_merge { KeepsMerge self.old self.new }
     {
         self.store.counts(arch)
     }
@@ -199,10 +68,11 @@ impl<S: Alter + Drop> Writing<'_, S> {
     /// The record of the source package on the architecture, or none if it has no record there. It sees what the
     /// transaction wrote.
     pub fn get(&mut self, arch: &Text, source: &Text) -> Result<Option<Record>, StoreFault>
-        ensures looks_up { LooksUp S.Store (ask.RecordAt (arch.now, source.now)) (λ machine found. found ≡ map.get machine.records (arch.now, source.now))
+        ensures looks_up { LooksUp S.Store (ask.RecordAt (arch.now, source.now)) (λ machine found.
+            found ≡ map.get machine.records (arch.now, source.now))
             self.old.store.now self.new.store.now result }
         ensures same_reference { self.new.store.ghost_name ≡ self.old.store.ghost_name }
-        ensures same_merge { (self.new.is_saved ≡ self.old.is_saved) × (self.new.last_place ≡ self.old.last_place) }
+        ensures same_merge { KeepsMerge self.old self.new }
     {
         self.store.get(arch, source)
     }
@@ -210,10 +80,11 @@ impl<S: Alter + Drop> Writing<'_, S> {
     /// The record that is held under the take number, or none if no record is, as for a number that was never
     /// given. It sees what the transaction wrote.
     pub fn by_take(&mut self, take_number: u64) -> Result<Option<KeyedRecord>, StoreFault>
-        ensures looks_up { LooksUp S.Store (ask.TakenAs take_number) (λ machine found. IsConsistent machine → option_map entry_of found ≡ taken_as machine take_number)
+        ensures looks_up { LooksUp S.Store (ask.TakenAs take_number) (λ machine found.
+            IsConsistent machine → option_map entry_of found ≡ taken_as machine take_number)
             self.old.store.now self.new.store.now result }
         ensures same_reference { self.new.store.ghost_name ≡ self.old.store.ghost_name }
-        ensures same_merge { (self.new.is_saved ≡ self.old.is_saved) × (self.new.last_place ≡ self.old.last_place) }
+        ensures same_merge { KeepsMerge self.old self.new }
     {
         self.store.by_take(take_number)
     }
@@ -221,32 +92,23 @@ impl<S: Alter + Drop> Writing<'_, S> {
     /// The records of the architecture, by the names of their source packages: none if it was never added. It sees
     /// what the transaction wrote.
     pub fn all_of(&mut self, arch: &Text) -> Result<Vec<KeyedRecord>, StoreFault>
-        ensures looks_up { LooksUp S.Store (ask.RecordsOf arch.now) (λ machine rows. each entry_of rows.items ≡ rows_of machine arch.now)
+        ensures looks_up { LooksUp S.Store (ask.RecordsOf arch.now) (λ machine rows.
+            each entry_of rows.items ≡ rows_of machine arch.now)
             self.old.store.now self.new.store.now result }
         ensures same_reference { self.new.store.ghost_name ≡ self.old.store.ghost_name }
-        ensures same_merge { (self.new.is_saved ≡ self.old.is_saved) × (self.new.last_place ≡ self.old.last_place) }
+        ensures same_merge { KeepsMerge self.old self.new }
     {
         self.store.all_of(arch)
-    }
-
-    /// The records of the architecture that are in the state, by the names of their source packages: none if it was
-    /// never added. It sees what the transaction wrote.
-    pub fn in_state(&mut self, arch: &Text, state: State) -> Result<Vec<KeyedRecord>, StoreFault>
-        ensures looks_up { LooksUp S.Store (ask.InState arch.now state) (λ machine rows. each entry_of rows.items ≡ rows_in machine arch.now state)
-            self.old.store.now self.new.store.now result }
-        ensures same_reference { self.new.store.ghost_name ≡ self.old.store.ghost_name }
-        ensures same_merge { (self.new.is_saved ≡ self.old.is_saved) × (self.new.last_place ≡ self.old.last_place) }
-    {
-        self.store.in_state(arch, state)
     }
 
     /// The records that the builder holds, of all architectures, by take number: none if it was never added. It
     /// sees what the transaction wrote.
     pub fn held_by(&mut self, builder: &Text) -> Result<Vec<KeyedRecord>, StoreFault>
-        ensures looks_up { LooksUp S.Store (ask.HeldBy builder.now) (λ machine rows. each entry_of rows.items ≡ held_of machine builder.now)
+        ensures looks_up { LooksUp S.Store (ask.HeldBy builder.now) (λ machine rows.
+            each entry_of rows.items ≡ held_of machine builder.now)
             self.old.store.now self.new.store.now result }
         ensures same_reference { self.new.store.ghost_name ≡ self.old.store.ghost_name }
-        ensures same_merge { (self.new.is_saved ≡ self.old.is_saved) × (self.new.last_place ≡ self.old.last_place) }
+        ensures same_merge { KeepsMerge self.old self.new }
     {
         self.store.held_by(builder)
     }
@@ -254,10 +116,11 @@ impl<S: Alter + Drop> Writing<'_, S> {
     /// The head of the architecture's queue, which is built next, or none if no source package of the architecture
     /// waits for a builder (wanna-build's states page). It sees what the transaction wrote.
     pub fn head(&mut self, arch: &Text) -> Result<Option<KeyedRecord>, StoreFault>
-        ensures looks_up { LooksUp S.Store (ask.HeadOf arch.now) (λ machine found. IsConsistent machine → option_map entry_of found ≡ head_of machine arch.now)
+        ensures looks_up { LooksUp S.Store (ask.HeadOf arch.now) (λ machine found.
+            IsConsistent machine → option_map entry_of found ≡ head_of machine arch.now)
             self.old.store.now self.new.store.now result }
         ensures same_reference { self.new.store.ghost_name ≡ self.old.store.ghost_name }
-        ensures same_merge { (self.new.is_saved ≡ self.old.is_saved) × (self.new.last_place ≡ self.old.last_place) }
+        ensures same_merge { KeepsMerge self.old self.new }
     {
         self.store.head(arch)
     }
@@ -265,10 +128,11 @@ impl<S: Alter + Drop> Writing<'_, S> {
     /// The architecture's queue: its records that wait for a builder, in the order in which they are built (wanna-
     /// build's states page). It sees what the transaction wrote.
     pub fn queue_of(&mut self, arch: &Text) -> Result<Vec<KeyedRecord>, StoreFault>
-        ensures looks_up { LooksUp S.Store (ask.QueueOf arch.now) (λ machine rows. IsConsistent machine → each entry_of rows.items ≡ queue_of machine arch.now)
+        ensures looks_up { LooksUp S.Store (ask.QueueOf arch.now) (λ machine rows.
+            IsConsistent machine → each entry_of rows.items ≡ queue_of machine arch.now)
             self.old.store.now self.new.store.now result }
         ensures same_reference { self.new.store.ghost_name ≡ self.old.store.ghost_name }
-        ensures same_merge { (self.new.is_saved ≡ self.old.is_saved) × (self.new.last_place ≡ self.old.last_place) }
+        ensures same_merge { KeepsMerge self.old self.new }
     {
         self.store.queue_of(arch)
     }

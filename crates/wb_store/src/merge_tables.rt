@@ -15,10 +15,10 @@ ghost use Rattle.wb_store.specs.MergeRuns.{FailsIn, HoldsTables, RunsOn};
 ghost use Rattle.std.proofs.Common.{refl, ◌∙◌};
 ghost use Rattle.wb_store.specs.MergeLaws.{clean_before, fails_then, runs_itself, runs_then};
 
-use crate::changes::has_fitting_take;
+use crate::changes::{has_fitting_take, put};
 use crate::fault::unfit;
 use crate::writing::Writing;
-use crate::{changes, merging, packages, savepoint};
+use crate::{merging, packages};
 use deb_text::Text;
 use deb_version::Version;
 use sqlite::Alter;
@@ -61,17 +61,6 @@ fn fitting(found: Option<Record>) -> Result<Option<Record>, StoreFault>
     } else {
         Err(unfit(Table::SourceRecord))
     }
-}
-
-/// The names of the source packages of records, in their order.
-fn names_of(rows: Vec<KeyedRecord>) -> Result<Vec<Text>, AllocError>
-    ensures value { IfOk result (λ names. names.items ≡ each (λ row. row.source) rows.items) }
-{
-    let mut names = Vec::new(*rows.allocator());
-    for row in rows {
-        names.push(row.source)?;
-    }
-    Ok(names)
 }
 
 /// The versions of packages, in their order.
@@ -120,8 +109,7 @@ impl<S: Alter + Drop> MergeTables for Writing<'_, S> {
     }
 
     fn recorded_names(&mut self, arch: &Text) -> Result<Vec<Text>, StoreFault> {
-        let rows = self.store.all_of(arch)?;
-        Ok(names_of(rows)?)
+        self.store.recorded_names(arch)
     }
 
     fn waiting(&mut self, arch: &Text) -> Result<Vec<KeyedRecord>, StoreFault> {
@@ -165,12 +153,11 @@ impl<S: Alter + Drop> MergeTables for Writing<'_, S> {
 
     fn put(&mut self, arch: &Text, source: &Text, current: &Record) -> Result<(), StoreFault> {
         let store = &mut *self.store;
-        changes::put(&mut store.conn, arch, source, current)
+        put(&mut store.conn, arch, source, current)
     }
 
     fn remove(&mut self, arch: &Text, source: &Text) -> Result<(), StoreFault> {
-        let store = &mut *self.store;
-        changes::remove(&mut store.conn, arch, source)
+        Writing::remove(self, arch, source)
     }
 
     // A savepoint that was set stays where it is.
@@ -178,10 +165,7 @@ impl<S: Alter + Drop> MergeTables for Writing<'_, S> {
         if self.is_saved {
             return Ok(());
         }
-        let store = &mut *self.store;
-        savepoint::save(&mut store.conn)?;
-        self.is_saved = true;
-        Ok(())
+        Writing::save(self)
     }
 
     // Without a savepoint there is nothing to go back to.
@@ -189,8 +173,7 @@ impl<S: Alter + Drop> MergeTables for Writing<'_, S> {
         if !self.is_saved {
             return Ok(());
         }
-        let store = &mut *self.store;
-        savepoint::back_to(&mut store.conn)
+        Writing::back_to(self)
     }
 
     // Without a savepoint there is none to give up.
@@ -198,10 +181,7 @@ impl<S: Alter + Drop> MergeTables for Writing<'_, S> {
         if !self.is_saved {
             return Ok(());
         }
-        let store = &mut *self.store;
-        savepoint::release(&mut store.conn)?;
-        self.is_saved = false;
-        Ok(())
+        Writing::release(self)
     }
 
     fn clear_binaries(&mut self) -> Result<(), StoreFault> {

@@ -1,17 +1,17 @@
 //! The source packages and the binary packages of a merge, as the scratch tables have them.
 ghost use Rattle.std.specs.Prelude.{◌≡◌, IfOk, IfErr, map as each};
-ghost use Rattle.wb_rows.specs.Scratch.{binary_cells, name_cells, source_cells};
+ghost use Rattle.wb_rows.specs.Scratch.{binary_cells, source_cells};
 ghost use Rattle.wb_states.specs.declared.store_fault.Table.TheVariants.{ScratchBinary, ScratchSource};
 ghost use Rattle.wb_store.specs.Faults.{IsUnfit};
 ghost use Rattle.wb_store.specs.Merging as merge;
 ghost use Rattle.wb_store.specs.Queries as ask;
-ghost use Rattle.wb_store.specs.ScratchLookups.{AreBinaries, AreNames, AreSources, DistinctNames, HasBinary, HasName, HasSource, LooksUpScratch};
+ghost use Rattle.wb_store.specs.ScratchLookups.{AreBinaries, AreNames, AreSources, DistinctNames, HasBinary, HasSource, LooksUpScratch};
 
 use crate::fault::unfit;
-use crate::reading::rows_of;
+use crate::reading::{names_in, rows_of};
 use deb_text::Text;
 use sqlite::{Alter, Connection, Row, params};
-use wb_rows::{binary_of, name_of, source_of};
+use wb_rows::{binary_of, source_of};
 use wb_sql::scratch;
 use wb_states::{BinaryRow, SourceRow, StoreFault, Table};
 
@@ -111,33 +111,13 @@ fn binaries_in(rows: Vec<Row>) -> Result<Vec<BinaryRow>, StoreFault>
     Ok(made)
 }
 
-/// The name in a row. The table is damaged if the row is not that of a name.
-fn name_in(row: &Row) -> Result<Text, StoreFault>
-    ensures value { IfOk result (λ made. row.now ≡ name_cells made) }
-    ensures err { IfErr result (IsUnfit ScratchSource (HasName row.now)) }
-{
-    name_of(row)?.ok_or(unfit(Table::ScratchSource))
-}
-
-/// The names in these rows. The table is damaged if a row is not that of one.
-fn names_in(rows: Vec<Row>) -> Result<Vec<Text>, StoreFault>
-    ensures value { IfOk result (λ made. rows.items ≡ each name_cells made.items) }
-    ensures err { IfErr result (IsUnfit ScratchSource (AreNames rows.items)) }
-{
-    let mut made = Vec::new(*rows.allocator());
-    for row in rows {
-        made.push(name_in(&row)?)?;
-    }
-    Ok(made)
-}
-
 /// The names in these rows, without each that is the same as the one before it. The table is damaged if a row is not that
 /// of a name.
 fn distinct_names_in(rows: Vec<Row>) -> Result<Vec<Text>, StoreFault>
     ensures value { IfOk result (λ made. DistinctNames rows.items made.items) }
     ensures err { IfErr result (IsUnfit ScratchSource (AreNames rows.items)) }
 {
-    let mut names = names_in(rows)?;
+    let mut names = names_in(Table::ScratchSource, rows)?;
     names.dedup();
     Ok(names)
 }

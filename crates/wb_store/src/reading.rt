@@ -6,14 +6,16 @@ ghost use Rattle.deb_text.specs.Lists.{first_of};
 ghost use Rattle.wb_states.specs.declared.store_fault.Table.TheVariants.{Arch, Office, SourceRecord};
 ghost use Rattle.wb_store.specs.Faults.{IsUnfit};
 ghost use Rattle.wb_store.specs.Lookups.{AreArchs, AreCounts, AreRecords, AreStates, HasArch, HasNumberAt, HasRecord, HasState, HaveCounts, ReadsRecords, ReadsTable, keyed_cells};
+ghost use Rattle.wb_store.specs.ScratchLookups.{AreNames, HasName};
 ghost use Rattle.wb_rows.specs.Cells.{arch_cells, number, state_cells};
+ghost use Rattle.wb_rows.specs.Scratch.{name_cells};
 ghost use Rattle.sqlite.specs.Order.{column};
 
 use crate::fault::{answer_on, unfit};
 use deb_text::Text;
 use sqlite::types::ValueRef;
 use sqlite::{Alter, Connection, Error, ErrorCode, Row};
-use wb_rows::{arch_of, record_of, state_of};
+use wb_rows::{arch_of, name_of, record_of, state_of};
 use wb_sql::read;
 use wb_states::{Counts, KeyedRecord, OsCpu, Record, State, StoreFault, Table};
 
@@ -107,6 +109,26 @@ pub(crate) fn states_in(rows: Vec<Row>) -> Result<Vec<State>, StoreFault>
     let mut made = Vec::new(*rows.allocator());
     for row in rows {
         made.push(state_in(&row)?)?;
+    }
+    Ok(made)
+}
+
+/// The name in a row of the table, which is damaged if the row is not that of a name.
+fn name_in(table: Table, row: &Row) -> Result<Text, StoreFault>
+    ensures value { IfOk result (λ made. row.now ≡ name_cells made) }
+    ensures err { IfErr result (IsUnfit table (HasName row.now)) }
+{
+    name_of(row)?.ok_or(unfit(table))
+}
+
+/// The names in these rows of the table, which is damaged if a row is not that of one.
+pub(crate) fn names_in(table: Table, rows: Vec<Row>) -> Result<Vec<Text>, StoreFault>
+    ensures value { IfOk result (λ made. rows.items ≡ each name_cells made.items) }
+    ensures err { IfErr result (IsUnfit table (AreNames rows.items)) }
+{
+    let mut made = Vec::new(*rows.allocator());
+    for row in rows {
+        made.push(name_in(table, &row)?)?;
     }
     Ok(made)
 }

@@ -4,6 +4,7 @@ ghost use Rattle.std.specs.List.{AllByRecursion};
 ghost use Rattle.wb_rows.specs.Shown.{AreReadableCells, row_of, values_of};
 ghost use Rattle.wb_store.specs.Faults.{IsUnfit};
 ghost use Rattle.wb_store.specs.Lookups.{AreRowsOf};
+ghost use Rattle.wb_store.specs.Noted.{KeepsMerge};
 ghost use Rattle.wb_store.specs.Queries.{IsCurrent, IsTextOfQuery};
 ghost use Rattle.wb_store.specs.TableRows.{HasCells, ShowsAll, ShowsRows, ShowsTable, query_of_table, with_table};
 
@@ -27,7 +28,17 @@ impl<S: Alter + Drop> Store<S> {
     pub fn rows(&mut self, alloc: Global) -> Result<Items<TableRow>, StoreFault>
         ensures shows { ShowsAll S.Store self.old self.new result }
     {
-        all_rows(alloc, &mut self.conn)
+        let mut made = Items::new(alloc);
+        let tables = [
+            Table::Office,
+            Table::Arch,
+            Table::Builder,
+            Table::SourceRecord,
+            Table::ScratchSource,
+            Table::ScratchBinary,
+        ];
+        add_tables(alloc, &mut self.conn, &tables, &mut made)?;
+        Ok(made)
     }
 }
 
@@ -36,30 +47,10 @@ impl<S: Alter + Drop> Writing<'_, S> {
     pub fn rows(&mut self, alloc: Global) -> Result<Items<TableRow>, StoreFault>
         ensures shows { ShowsAll S.Store self.old.store.now self.new.store.now result }
         ensures same_reference { self.new.store.ghost_name ≡ self.old.store.ghost_name }
-        ensures same_merge { (self.new.is_saved ≡ self.old.is_saved) × (self.new.last_place ≡ self.old.last_place) }
+        ensures same_merge { KeepsMerge self.old self.new }
     {
         self.store.rows(alloc)
     }
-}
-
-/// Each row of the office's tables.
-fn all_rows<S: Alter>(
-    alloc: Global,
-    conn: &mut Connection<S>,
-) -> Result<Items<TableRow>, StoreFault>
-    ensures shows { ShowsAll S.Store conn.old conn.new result }
-{
-    let mut made = Items::new(alloc);
-    let tables = [
-        Table::Office,
-        Table::Arch,
-        Table::Builder,
-        Table::SourceRecord,
-        Table::ScratchSource,
-        Table::ScratchBinary,
-    ];
-    add_tables(alloc, conn, &tables, &mut made)?;
-    Ok(made)
 }
 
 /// Adds the rows of these tables of the second schema, one table after another.

@@ -13,21 +13,26 @@ ghost use Rattle.wb_sql.specs.Transactions.{IsKeptOrUndone};
 ghost use Rattle.wb_states.specs.Limits.{count_limit};
 ghost use Rattle.wb_store.specs.Calls.{Changes};
 ghost use Rattle.wb_store.specs.Ending.{IsEndedFrom, IsFaultOfCommit, IsFaultOfRollBack};
+ghost use Rattle.wb_store.specs.Noted.{KeepsMerge};
 ghost use Rattle.wb_store.specs.Settled.{SettlesBy, TakesBack};
 ghost use Rattle.wb_store.specs.Writes as write;
 
+use crate::changes::put;
+use crate::ending::committed;
+use crate::fault::answer_on;
 use crate::store::Store;
-use crate::{changes, ending};
 use deb_text::Text;
-use sqlite::Alter;
-use wb_states::{Counts, OsCpu, Record, StoreFault};
+use sqlite::{Alter, params};
+use wb_rows::{arch_values, builder_values, record_values};
+use wb_sql::{delete, insert, statements, update};
+use wb_states::{Counts, OsCpu, Record, StoreFault, Table};
 
 /// A transaction under way. It is ended by [`commit`](Writing::commit) or [`roll_back`](Writing::roll_back), and cannot be
 /// let go without one of the two. A failure of the store or of memory ends it too, and takes back what it wrote; after that
 /// its changes are refused (this project's own).
 pub struct Writing<'store, S: Alter + Drop> {
     pub(crate) store: &'store mut Store<S>,
-    /// Whether a merge set its savepoint.
+    /// Whether a savepoint was set and none was dropped since.
     pub(crate) is_saved: bool,
     /// The greatest place at which a merge added a row, or 0.
     pub(crate) last_place: u64,
@@ -38,51 +43,65 @@ impl<S: Alter + Drop> Writing<'_, S> {
     pub fn set_counts(&mut self, counts: Counts) -> Result<(), StoreFault>
         requires fits { (counts.handed ≤ count_limit) × (counts.accepted ≤ count_limit) }
         ensures same_reference { self.new.store.ghost_name ≡ self.old.store.ghost_name }
-        ensures same_merge { (self.new.is_saved ≡ self.old.is_saved) × (self.new.last_place ≡ self.old.last_place) }
+        ensures same_merge { KeepsMerge self.old self.new }
         ensures changes { Changes S.Store (write.SetsCounts counts.handed counts.accepted) (λ _. ⊤)
             (λ machine. record machine { handed = counts.handed; accepted = counts.accepted })
             self.old.store.now self.new.store.now result }
     {
         let store = &mut *self.store;
-        changes::set_counts(&mut store.conn, counts)
+        let answered = update(
+            &mut store.conn,
+            statements::set_counts(),
+            params![counts.handed as i64, counts.accepted as i64],
+        );
+        answer_on(answered, Table::Office)
     }
 
     /// Adds an architecture, which is not there yet, with its words; all else stays. A name that is there is a fault too.
     pub fn add_arch(&mut self, name: &Text, words: &OsCpu) -> Result<(), StoreFault>
         ensures same_reference { self.new.store.ghost_name ≡ self.old.store.ghost_name }
-        ensures same_merge { (self.new.is_saved ≡ self.old.is_saved) × (self.new.last_place ≡ self.old.last_place) }
+        ensures same_merge { KeepsMerge self.old self.new }
         ensures changes { Changes S.Store (write.AddsArch (name.now, words.now)) (λ machine. map.get machine.archs name.now ≡ None)
             (λ machine. record machine { archs = map.insert machine.archs name.now words.now })
             self.old.store.now self.new.store.now result }
     {
         let store = &mut *self.store;
-        changes::add_arch(&mut store.conn, name, words)
+        let values = arch_values(name, words);
+        let answered = insert(&mut store.conn, statements::add_arch(), &values);
+        answer_on(answered, Table::Arch)
     }
 
     /// Adds a builder for an architecture, for which it was not added yet; all else stays. A pair that is there is a fault
     /// too.
     pub fn add_builder(&mut self, builder: &Text, arch: &Text) -> Result<(), StoreFault>
         ensures same_reference { self.new.store.ghost_name ≡ self.old.store.ghost_name }
-        ensures same_merge { (self.new.is_saved ≡ self.old.is_saved) × (self.new.last_place ≡ self.old.last_place) }
+        ensures same_merge { KeepsMerge self.old self.new }
         ensures changes { Changes S.Store (write.AddsBuilder (builder.now, arch.now))
             (λ machine. set.contains machine.builders (builder.now, arch.now) ≡ false)
             (λ machine. record machine { builders = set.insert machine.builders (builder.now, arch.now) })
             self.old.store.now self.new.store.now result }
     {
         let store = &mut *self.store;
-        changes::add_builder(&mut store.conn, builder, arch)
+        let values = builder_values(builder, arch);
+        let answered = insert(&mut store.conn, statements::add_builder(), &values);
+        answer_on(answered, Table::Builder)
     }
 
     /// Takes out the record of the source package `source` on the architecture `arch`, if there is one; all else stays.
     pub fn remove(&mut self, arch: &Text, source: &Text) -> Result<(), StoreFault>
         ensures same_reference { self.new.store.ghost_name ≡ self.old.store.ghost_name }
-        ensures same_merge { (self.new.is_saved ≡ self.old.is_saved) × (self.new.last_place ≡ self.old.last_place) }
+        ensures same_merge { KeepsMerge self.old self.new }
         ensures changes { Changes S.Store (write.RemovesRecord (arch.now, source.now)) (λ _. ⊤)
             (λ machine. record machine { records = map.remove machine.records (arch.now, source.now) })
             self.old.store.now self.new.store.now result }
     {
         let store = &mut *self.store;
-        changes::remove(&mut store.conn, arch, source)
+        let answered = delete(
+            &mut store.conn,
+            statements::remove_record(),
+            params![arch.as_str(), source.as_str()],
+        );
+        answer_on(answered, Table::SourceRecord)
     }
 
     /// Gives the source package `source` on the architecture `arch` the record `current`, in place of the one that it had,
@@ -91,7 +110,7 @@ impl<S: Alter + Drop> Writing<'_, S> {
     pub fn put(&mut self, arch: &Text, source: &Text, current: &Record) -> Result<(), StoreFault>
         requires given { IfSome current.now.take (λ take_number. take_number ≤ count_limit) }
         ensures same_reference { self.new.store.ghost_name ≡ self.old.store.ghost_name }
-        ensures same_merge { (self.new.is_saved ≡ self.old.is_saved) × (self.new.last_place ≡ self.old.last_place) }
+        ensures same_merge { KeepsMerge self.old self.new }
         ensures changes { Changes S.Store (write.PutsRecord ((arch.now, source.now), current.now)) (λ _. ⊤)
             (λ machine. record machine {
               records = map.insert machine.records (arch.now, source.now) current.now;
@@ -99,7 +118,7 @@ impl<S: Alter + Drop> Writing<'_, S> {
             self.old.store.now self.new.store.now result }
     {
         let store = &mut *self.store;
-        changes::put(&mut store.conn, arch, source, current)
+        put(&mut store.conn, arch, source, current)
     }
 
     /// Gives the source package `source` on the architecture `arch` the record `current` in place of the one that it has;
@@ -113,7 +132,7 @@ impl<S: Alter + Drop> Writing<'_, S> {
     ) -> Result<(), StoreFault>
         requires given { IfSome current.now.take (λ take_number. take_number ≤ count_limit) }
         ensures same_reference { self.new.store.ghost_name ≡ self.old.store.ghost_name }
-        ensures same_merge { (self.new.is_saved ≡ self.old.is_saved) × (self.new.last_place ≡ self.old.last_place) }
+        ensures same_merge { KeepsMerge self.old self.new }
         ensures changes { Changes S.Store (write.ReplacesRecord ((arch.now, source.now), current.now))
             (λ machine. IsSome (map.get machine.records (arch.now, source.now)))
             (λ machine. record machine {
@@ -122,7 +141,9 @@ impl<S: Alter + Drop> Writing<'_, S> {
             self.old.store.now self.new.store.now result }
     {
         let store = &mut *self.store;
-        changes::replace(&mut store.conn, arch, source, current)
+        let values = record_values(arch, source, current);
+        let answered = update(&mut store.conn, statements::replace_record(), &values);
+        answer_on(answered, Table::SourceRecord)
     }
 
     /// Ends the transaction, and makes its state permanent. The fault is `Memory` if memory ran out before anything was
@@ -143,7 +164,8 @@ impl<S: Alter + Drop> Writing<'_, S> {
             is_saved: _,
             last_place: _,
         } = self;
-        ending::commit(&mut store.conn)
+        let answered = wb_sql::commit(&mut store.conn);
+        committed(answered)
     }
 
     /// Ends the transaction, and takes back what it wrote, so that the state from which it began stands again; a transaction
@@ -163,6 +185,6 @@ impl<S: Alter + Drop> Writing<'_, S> {
             is_saved: _,
             last_place: _,
         } = self;
-        ending::roll_back(&mut store.conn)
+        store.roll_back()
     }
 }

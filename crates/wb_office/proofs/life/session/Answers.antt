@@ -1,9 +1,8 @@
-use Rattle.wb_office.specs.Offices.{IsAt}
-use Rattle.wb_office.proofs.SessionLemmas.{left_of_session, opened_at_one, session_of}
+use Rattle.wb_office.proofs.SessionLemmas.{left_of_session, open_over, session_of}
 use Rattle.wb_office.proofs.life.session.Goals as goal
 
 pub returns : goal.returns
 returns g c =
     let e = c.in_ok-office.ensures in
-    let lived = session_of g.D.Disk c.live.ensures.lives e.clean (λ clean. opened_at_one g.D.Disk c.args.files IsAt c.in_ok-office.office (e.left clean) (e.new clean)) in
-    record { lived = lived; left = left_of_session g.D.Disk c.live.result.files lived; refused = tt }
+    let lived = session_of g.D.Disk (open_over g.D.Disk c.args.files c.in_ok-office.office e.opened e.clean e.left e.new) c.live-ended.ensures.lives c.ok.ensures.value in
+    record { lived = lived; left = left_of_session g.D.Disk c.ok.result lived; refused = tt }

@@ -1,11 +1,10 @@
-use Rattle.wb_office.proofs.StandingLemmas.{stands_opened}
 use Rattle.wb_office.proofs.office.Office.adopt.Goals as goal
 
-pub returns-in-Ok-clause-found : goal.returns-in-Ok-clause-found
-returns-in-Ok-clause-found g c = λ clean machine is. stands_opened (c.in-Ok.ensures.found clean machine is)
-
 pub returns-in-Ok-clause-other : goal.returns-in-Ok-clause-other
-returns-in-Ok-clause-other g c = λ tables others unread. let is = c.in-Ok.ensures.other tables others unread in absurd (cc)
+returns-in-Ok-clause-other g c = λ tables others unread. absurd (c.in-Ok.ensures.other tables others unread)
 
 pub returns-in-Err-clause-other : goal.returns-in-Err-clause-other
-returns-in-Err-clause-other g c = λ tables others unread. let is = c.in-Err.ensures.other tables others unread in cc
+returns-in-Err-clause-other g c = λ tables others unread. let is = (c.in-Err.ensures.other tables others unread).0 in cc
+
+pub returns-in-Err-clause-refused : goal.returns-in-Err-clause-refused
+returns-in-Err-clause-refused g c = (c.in-Err.refused.conn, c.in-Err.ensures.refused)

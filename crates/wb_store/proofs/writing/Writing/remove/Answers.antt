@@ -1,4 +1,10 @@
+use Rattle.std.proofs.Common.{refl, ap₂, ◌∷◌}
+use Rattle.wb_store.proofs.ChangeLemmas.{removal_change, text_bound}
 use Rattle.wb_store.proofs.writing.Writing.remove.Goals as goal
 
 pub returns-clause-changes : goal.returns-clause-changes
-returns-clause-changes g c = rw (← c.store.view_is) c.remove.ensures.changes
+returns-clause-changes g c = rw (← c.store.view_is) (let params = ap₂ ◌∷◌
+    (text_bound _ _ _ c.params-to_sql.ensures c.as_str.ensures) (ap₂ ◌∷◌
+    (text_bound _ _ _ c.params-to_sql-2.ensures c.as_str-2.ensures) refl) in
+    removal_change c.args.arch.now c.args.source.now c.remove_record.ensures params c.delete-answered.ensures.runs
+    c.delete-answered.ensures.ok c.answer_on.ensures.value)

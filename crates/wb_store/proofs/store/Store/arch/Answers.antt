@@ -1,0 +1,32 @@
+use Rattle.std.proofs.Common.{[], ◌∷◌, ap, refl}
+use Rattle.std.proofs.lemmas.Result.{IfOk-weaker}
+use Rattle.sqlite.specs.Held.{state}
+use Rattle.wb_store.specs.Lookups.{AreArchs}
+use Rattle.wb_store.specs.Queries as ask
+use Rattle.wb_store.proofs.ArchLemmas.{words_found, name_readable}
+use Rattle.wb_store.proofs.FoundLemmas.{text_bound}
+use Rattle.wb_store.proofs.ReadLemmas.{asks_of, handed_on, looks_up_nothing, looks_up_rows}
+use Rattle.wb_store.proofs.store.Store.arch.Goals as goal
+
+pub returns-in_err-rows : goal.returns-in_err-rows
+returns-in_err-rows g c = record {
+  looks_up = rw (← c.self.view_is) (looks_up_nothing (asks_of
+      (ask.ArchNamed c.args.name.now) tt c.arch_words.ensures (ap (λ v. v ∷ [])
+      (text_bound c.params-to_sql.ensures c.as_str.ensures))) c.in_err-rows.ensures.reads
+      (handed_on c.from_residual.result c.from_residual.ensures.1));
+}
+
+pub returns : goal.returns
+returns g c =
+    let db = (state g.S.Store c.self.inside.conn).now in
+    let rows = c.in_ok-rows.rows.items in
+    record {
+      looks_up = rw (← c.self.view_is) (looks_up_rows (asks_of (ask.ArchNamed c.args.name.now) tt c.arch_words.ensures
+          (ap (λ v. v ∷ []) (text_bound c.params-to_sql.ensures c.as_str.ensures)))
+          (AreArchs rows) c.words_in.result c.in_ok-rows.ensures.reads
+          (λ machine scratch stands a. IfOk-weaker c.words_in.result _ _
+          (λ found first. words_found machine db stands rows c.args.name.now found refl a first)
+          c.words_in.ensures.value)
+          c.words_in.ensures.err
+          (λ machine scratch sound stands a. name_readable machine db stands rows sound a));
+    }
