@@ -4,12 +4,20 @@
 //! or `stops` for stops within a call of the disk, each up to the end of the input.
 #![tactic(auto)]
 
+mod answers;
+mod commands;
 mod cut;
+mod device;
 mod frames;
+mod images;
 mod merges;
 mod messages;
+mod office;
+mod openings;
 mod reader;
+mod refusing;
 mod requests;
+mod rows;
 mod stops;
 mod streams;
 mod writer;

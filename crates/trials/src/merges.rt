@@ -10,9 +10,12 @@
 //! that of the list at PLACE, where Sources is at 0, fails once after READS reads. To standard output go the answer, each row of the
 //! office that is found in its files, and a line `end`.
 
+use crate::answers::show_outcome;
 use crate::cut::{Cut, Failure};
+use crate::office::TrialOffice;
 use crate::reader::CutReader;
-use crate::stops::work::{StoppingOffice, answer};
+use crate::rows::show_rows;
+use crate::stops::work::answer;
 use anyhow::{Context, Result, bail};
 use deb_text::{Items, Text};
 use std::alloc::Global;
@@ -20,7 +23,6 @@ use std::fs;
 use std::io::{BufRead, BufReader, Write};
 use std::rt::Files as FileHandle;
 use std::str::SplitWhitespace;
-use trial_office::{Images, opened, show_outcome, show_rows};
 use wb_archive::ArchList;
 use wb_office::Outcome;
 use wb_states::{Command, Part, command};
@@ -101,8 +103,7 @@ fn make<F: FileHandle + AllocGlobal, W: Write>(
     let mut words = line.split_whitespace();
     let how = words.next().context("a trial is whole or in pieces")?;
     let lines = words.next().context("a trial has no lines")?;
-    let files = Images::none(alloc).files(alloc, u64::MAX, u64::MAX)?;
-    let mut office = opened(alloc, files)?;
+    let mut office = TrialOffice::empty(alloc)?;
     let mut answers: Vec<u8> = Vec::new(alloc);
     answer(rt, alloc, &mut office, &fs::read(rt, lines)?, &mut answers);
     let answered = match how {
@@ -115,12 +116,11 @@ fn make<F: FileHandle + AllocGlobal, W: Write>(
         _ => bail!("a trial is whole or in pieces"),
     };
     show_outcome(alloc, "merge", &answered, output)?;
-    let images = Images::of(alloc, &office.surrender())?;
-    show_rows(alloc, &images, output)
+    show_rows(alloc, &office.leave(alloc)?, output)
 }
 
 /// The merge as a command.
-fn merge_whole(office: &mut StoppingOffice, lists: Lists, alloc: Global) -> Result<Outcome> {
+fn merge_whole(office: &mut TrialOffice, lists: Lists, alloc: Global) -> Result<Outcome> {
     let Lists { sources, parts } = lists;
     let mut given = Items::new(alloc);
     for part in parts {
@@ -139,7 +139,7 @@ fn merge_whole(office: &mut StoppingOffice, lists: Lists, alloc: Global) -> Resu
 /// The merge as readers give it.
 fn merge_pieces(
     alloc: Global,
-    office: &mut StoppingOffice,
+    office: &mut TrialOffice,
     lists: &Lists,
     pieces: Pieces,
 ) -> Result<Outcome> {

@@ -5,15 +5,15 @@
 
 pub(crate) mod opening;
 
+use crate::answers::word_of;
 use crate::frames::{self, Frame};
+use crate::office::TrialOffice;
 use crate::reader::CutReader;
 use crate::writer::CutWriter;
 use anyhow::{Context, Result};
-use opening::MemoryOffice;
 use std::alloc::Global;
 use std::io::{BufRead, Write};
-use trial_office::word_of;
-use wb_api::{Routes, Served, serve_one};
+use wb_api::{Routes, Served};
 use wb_streams::{WatchedReader, WatchedWriter};
 
 /// Answers the requests of the input, up to its end or a line `end`.
@@ -33,11 +33,7 @@ pub(crate) fn answer_all<R: BufRead + Drop, W: Write + Drop>(
 }
 
 /// The office over this Sources list and the Packages lists that stand next in the input.
-fn begun<R: BufRead + Drop>(
-    alloc: Global,
-    input: &mut R,
-    sources: Vec<u8>,
-) -> Result<MemoryOffice> {
+fn begun<R: BufRead + Drop>(alloc: Global, input: &mut R, sources: Vec<u8>) -> Result<TrialOffice> {
     let amd64 = frames::next(alloc, input)?.context("there is no list of amd64")?;
     let arm64 = frames::next(alloc, input)?.context("there is no list of arm64")?;
     opening::office_of(alloc, sources, amd64.bytes, arm64.bytes)
@@ -47,7 +43,7 @@ fn begun<R: BufRead + Drop>(
 fn answer_each<R: BufRead + Drop, W: Write + Drop>(
     alloc: Global,
     routes: &Routes,
-    office: &mut MemoryOffice,
+    office: &mut TrialOffice,
     input: &mut R,
     output: &mut W,
 ) -> Result<()> {
@@ -68,13 +64,13 @@ fn answer_each<R: BufRead + Drop, W: Write + Drop>(
 fn answered(
     alloc: Global,
     routes: &Routes,
-    office: &mut MemoryOffice,
+    office: &mut TrialOffice,
     request: &Frame,
 ) -> (Served, Vec<u8>) {
     let mut answer = CutWriter::new(alloc, request.writing);
     let mut reader = WatchedReader::new(CutReader::new(&request.bytes, request.reading));
     let mut writer = WatchedWriter::new(&mut answer);
-    let served = serve_one(alloc, routes, office, &mut reader, &mut writer);
+    let served = office.serve(alloc, routes, &mut reader, &mut writer);
     drop(writer);
     (served, answer.taken())
 }

@@ -4,13 +4,14 @@
 //!
 //! ```text
 //! run LINES LOG DB LOG-LEFT DB-LEFT      opens the office, answers the lines of the file LINES, and gives the office up
-//! session LINES LOG DB LOG-LEFT DB-LEFT  has an office live once with the commands of the lines, none of which is a merge, by `session`
+//! session LINES LOG DB LOG-LEFT DB-LEFT  has an office live once with the commands of the lines, none of which is a merge or a report, by `session`
 //! open LOG DB LOG-LEFT DB-LEFT           opens the office, and gives it up
 //! close LOG DB LOG-LEFT DB-LEFT          opens the office, and closes it
 //! keep                                   at the end: the files that are left are those of the trials from here on
 //! unopened                               at the end: the rows are those of the tables as they stand, and no office is opened for them
 //! begin DATABASE                         alone: the files are from here on a database of the bytes of this file, and an empty log
-//! lives LOG DB LINES..                   alone: over new files, an office lives once for each file of lines, none of which is a merge
+//! lives LOG DB LINES..                   alone: over new files, an office lives once for each file of lines, none of which is a merge or a report
+//! refuse K TRIAL                         the trial, but of its first `session`, `open` or `close`, or of its lives, the K-th request for memory is refused; 0 refuses none
 //! ```
 //!
 //! LOG and DB are how many calls the log and the database take before each later call fails and changes nothing; of lives the files of the
@@ -32,13 +33,15 @@ mod session;
 mod stage;
 pub(crate) mod work;
 
-use anyhow::Result;
+use crate::images::Images;
+use crate::refusing::arm;
+use crate::rows::{show_rows, show_unopened_rows};
+use anyhow::{Context, Result};
 use stage::{End, Stage};
 use std::alloc::Global;
 use std::fs;
 use std::io::{BufRead, Write};
 use std::rt::Files as FileHandle;
-use trial_office::{Images, show_rows, show_unopened_rows};
 
 /// Makes each trial of the input.
 pub(crate) fn make_all<F: FileHandle + AllocGlobal, R: BufRead + Drop, W: Write>(
@@ -53,17 +56,33 @@ pub(crate) fn make_all<F: FileHandle + AllocGlobal, R: BufRead + Drop, W: Write>
         if input.read_line(&mut line)? == 0 {
             break;
         }
-        if let Some(words) = line.strip_prefix("lives ") {
+        let trial = armed(alloc, &line)?;
+        if let Some(words) = trial.strip_prefix("lives ") {
             lives::show(rt, alloc, words, output)?;
-        } else if let Some(name) = line.strip_prefix("begin ") {
+        } else if let Some(name) = trial.strip_prefix("begin ") {
             kept = Images::begun(alloc, fs::read(rt, name.trim_end())?);
-        } else if let Some(images) = stopped(rt, alloc, &kept, &line, output)? {
+        } else if let Some(images) = stopped(rt, alloc, &kept, trial, output)? {
             kept = images;
         }
         writeln!(output, "end")?;
         output.flush()?;
     }
     Ok(())
+}
+
+/// The trial of a line. If the line says so, a request for memory is refused in the next call that begins.
+fn armed<'a>(alloc: Global, line: &'a str) -> Result<&'a str> {
+    let Some(rest) = line.strip_prefix("refuse ") else {
+        return Ok(line);
+    };
+    let (number, trial) = rest.split_once(' ').context("a refusal has no trial")?;
+    arm(
+        alloc,
+        number
+            .parse::<u32>()
+            .context("the number of a request is not decimal")?,
+    );
+    Ok(trial)
 }
 
 /// Makes a trial of stages, and shows what the files hold then; or gives the files, if they are to be kept.

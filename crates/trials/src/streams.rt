@@ -14,18 +14,16 @@
 
 mod lists;
 
+use crate::answers::word_of;
 use crate::frames::{self, Frame};
+use crate::office::TrialOffice;
 use crate::reader::CutReader;
-use crate::requests::opening::{MemoryOffice, opened};
 use crate::writer::CutWriter;
 use anyhow::{Context, Result, bail};
 use lists::NoLists;
 use std::alloc::Global;
 use std::io::{BufRead, Write};
-use trial_office::word_of;
-use wb_api::{Routes, serve_one};
-use wb_daemon::run_lines;
-use wb_step::CarryOut;
+use wb_api::Routes;
 use wb_streams::{WatchedReader, WatchedWriter};
 
 /// How a run or an exchange ended, and what was answered.
@@ -44,7 +42,7 @@ pub(crate) fn answer_all<R: BufRead + Drop, W: Write + Drop>(
     output: &mut W,
 ) -> Result<()> {
     let routes = Routes::new(alloc)?;
-    let mut office = opened(alloc)?;
+    let mut office = TrialOffice::empty(alloc)?;
     for _ in 0..u64::MAX {
         let mut line = String::new(alloc);
         if input.read_line(&mut line)? == 0 {
@@ -52,7 +50,7 @@ pub(crate) fn answer_all<R: BufRead + Drop, W: Write + Drop>(
         }
         match line.trim_end() {
             "end" => break,
-            "new" => office = opened(alloc)?,
+            "new" => office = TrialOffice::empty(alloc)?,
             words => {
                 let ended = answered(alloc, &routes, &mut office, words, input)?;
                 show(&ended, office.accepted_count(), output)?;
@@ -66,7 +64,7 @@ pub(crate) fn answer_all<R: BufRead + Drop, W: Write + Drop>(
 fn answered<R: BufRead + Drop>(
     alloc: Global,
     routes: &Routes,
-    office: &mut MemoryOffice,
+    office: &mut TrialOffice,
     words: &str,
     input: &mut R,
 ) -> Result<Ended> {
@@ -80,11 +78,11 @@ fn answered<R: BufRead + Drop>(
 }
 
 /// How the run over these lines ends.
-fn ran(alloc: Global, office: &mut MemoryOffice, lines: &Frame) -> Ended {
+fn ran(alloc: Global, office: &mut TrialOffice, lines: &Frame) -> Ended {
     let mut answer = CutWriter::new(alloc, lines.writing);
     let mut reader = WatchedReader::new(CutReader::new(&lines.bytes, lines.reading));
     let mut writer = WatchedWriter::new(&mut answer);
-    let status = run_lines(alloc, office, &mut reader, &mut writer, &mut NoLists);
+    let status = office.answer_lines(alloc, &mut reader, &mut writer, &mut NoLists);
     let failed = failed_of(reader.has_failed(), writer.has_failed());
     drop(writer);
     Ended {
@@ -96,11 +94,11 @@ fn ran(alloc: Global, office: &mut MemoryOffice, lines: &Frame) -> Ended {
 }
 
 /// How the exchange for this request ends.
-fn served(alloc: Global, routes: &Routes, office: &mut MemoryOffice, request: &Frame) -> Ended {
+fn served(alloc: Global, routes: &Routes, office: &mut TrialOffice, request: &Frame) -> Ended {
     let mut answer = CutWriter::new(alloc, request.writing);
     let mut reader = WatchedReader::new(CutReader::new(&request.bytes, request.reading));
     let mut writer = WatchedWriter::new(&mut answer);
-    let (word, status) = word_of(serve_one(alloc, routes, office, &mut reader, &mut writer));
+    let (word, status) = word_of(office.serve(alloc, routes, &mut reader, &mut writer));
     let failed = failed_of(reader.has_failed(), writer.has_failed());
     drop(writer);
     Ended {

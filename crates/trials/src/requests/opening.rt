@@ -1,11 +1,9 @@
 //! The office that the requests are sent to.
 
+use crate::office::TrialOffice;
 use anyhow::{Context, Result};
 use deb_text::{Items, Text};
-use sqlite::{FileStore, Files};
-use sqlite_disk::Memory;
 use std::alloc::{AllocError, Global};
-use wb_office::Office;
 use wb_states::Command;
 use wb_states::command::{AddArch, AddBuilder, Merge, Part};
 
@@ -17,18 +15,6 @@ const BUILDERS: [(&str, &str); 4] = [
     ("b3", "arm64"),
 ];
 
-/// An office over tables in memory.
-pub(crate) type MemoryOffice = Office<FileStore<Memory>>;
-
-/// An empty office.
-pub(crate) fn opened(alloc: Global) -> Result<MemoryOffice> {
-    let files = Files {
-        log: Memory::new(alloc),
-        db: Memory::new(alloc),
-    };
-    trial_office::opened(alloc, files)
-}
-
 /// An office with the architectures amd64 and arm64, the builders b1 for the first, b2 for the second and b3 for both, and the
 /// records that these lists give.
 pub(crate) fn office_of(
@@ -36,8 +22,8 @@ pub(crate) fn office_of(
     sources: Vec<u8>,
     amd64: Vec<u8>,
     arm64: Vec<u8>,
-) -> Result<MemoryOffice> {
-    let mut office = opened(alloc)?;
+) -> Result<TrialOffice> {
+    let mut office = TrialOffice::empty(alloc)?;
     for name in ["amd64", "arm64"] {
         carry_out(&mut office, &added_arch(alloc, name)?)?;
     }
@@ -48,7 +34,7 @@ pub(crate) fn office_of(
     Ok(office)
 }
 
-fn carry_out(office: &mut MemoryOffice, command: &Command) -> Result<()> {
+fn carry_out(office: &mut TrialOffice, command: &Command) -> Result<()> {
     let _ = office
         .apply(command)
         .context("the office cannot be opened")?;

@@ -2,16 +2,21 @@
 
 ghost use Rattle.std.specs.Prelude.{◌≤◌, length};
 
+use crate::answers::show_found;
+use crate::commands::commands_of;
+use crate::images::{Images, Stopping};
+use crate::office::SEED;
+use crate::refusing::{begin, stop};
+use crate::rows::show_rows;
 use crate::stops::power::{Calls, Watching};
 use crate::stops::stage::number_of;
-use anyhow::{Result, anyhow, bail};
+use anyhow::{Result, bail};
 use deb_text::Items;
 use sqlite::Options;
 use sqlite_disk::Disk;
 use std::alloc::Global;
 use std::io::Write;
 use std::rt::Files as FileHandle;
-use trial_office::{Images, SEED, Stopping, commands_of, show_found, show_rows};
 use wb_office::{LivesEnd, lives};
 use wb_states::Command;
 
@@ -42,7 +47,9 @@ fn show_all<W: Write>(
     output: &mut W,
 ) -> Result<()> {
     let mut power = Watching::new(alloc, commands.len() as u64, calls);
-    let LivesEnd { found, files } = lived(alloc, &mut power, commands)?;
+    let Some(LivesEnd { found, files }) = lived(alloc, &mut power, commands, output)? else {
+        return Ok(());
+    };
     show_found(alloc, commands, found.as_slice(), output)?;
     show_power(&power, output)?;
     match files {
@@ -54,21 +61,28 @@ fn show_all<W: Write>(
     }
 }
 
-/// What lives with these commands end with, over new files.
-fn lived(
+/// What lives with these commands end with, over new files; none and a line with the fault if no life begins.
+fn lived<W: Write>(
     alloc: Global,
     power: &mut Watching,
     commands: &[Items<Command>],
-) -> Result<LivesEnd<Stopping>>
+    output: &mut W,
+) -> Result<Option<LivesEnd<Stopping>>>
     requires cuts { length commands.now ≤ power.old.crashes.left }
 {
     let files = Images::none(alloc).files(alloc, u64::MAX, u64::MAX)?;
     if !files.log.may_be_used() || !files.db.may_be_used() {
         bail!("a file cannot be used");
     }
-    match lives(alloc, files, Options::new(SEED), power, commands) {
-        Ok(end) => Ok(end),
-        Err(fault) => Err(anyhow!("the lives failed: {fault}")),
+    begin(alloc);
+    let end = lives(alloc, files, Options::new(SEED), power, commands);
+    stop(alloc);
+    match end {
+        Ok(end) => Ok(Some(end)),
+        Err(fault) => {
+            writeln!(output, "fault {}", fault.name())?;
+            Ok(None)
+        }
     }
 }
 

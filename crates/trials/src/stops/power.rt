@@ -4,13 +4,14 @@ ghost use Rattle.std.specs.Prelude.{◌≡◌, ◌<◌, ◌+◌, IsTrue};
 ghost use Rattle.sqlite.specs.WalFiles.{outcomes};
 ghost use Rattle.sqlite.specs.WalReads.{AreClean};
 
+use crate::images::{Fused, Images};
+use crate::office::TrialOffice;
+use crate::refusing::{go_on, pause};
 use anyhow::Result;
 use sqlite::Files;
 use sqlite_disk::Disk;
 use std::alloc::Global;
-use trial_office::{Fused, Images, opened};
 use wb_office::{Crashes, Power};
-use wb_step::CarryOut;
 
 /// After how many calls the files of a life stop.
 #[derive(Clone, Copy)]
@@ -77,18 +78,21 @@ impl<D: Fused> Power<D> for Watching {
         ensures usable { IsTrue (D.Disk.is_usable result.log) × IsTrue (D.Disk.is_usable result.db) }
     {
         let left = self.crashes.back(files);
+        pause(self.alloc);
         self.look(&left);
-        match self.stops.take() {
+        let given = match self.stops.take() {
             Some(calls) => stopping(self.alloc, left, calls),
             None => left,
-        }
+        };
+        go_on(self.alloc);
+        given
     }
 }
 
 /// How many commands the office in a copy of the files accepted.
 fn accepted_in<D: Fused>(alloc: Global, files: &Files<D>) -> Result<u64> {
     let images = Images::of(alloc, files)?;
-    let office = opened(alloc, images.files(alloc, u64::MAX, u64::MAX)?)?;
+    let office = TrialOffice::open(alloc, images.files(alloc, u64::MAX, u64::MAX)?)?;
     Ok(office.accepted_count())
 }
 

@@ -1,5 +1,10 @@
 //! One life of an office over files that stop, with commands that are given at once.
 
+use crate::answers::show_outcomes;
+use crate::commands::commands_of;
+use crate::images::Stopping;
+use crate::office::SEED;
+use crate::refusing::{begin, stop};
 use anyhow::{Result, bail};
 use deb_text::Items;
 use sqlite::{Files, Options};
@@ -7,7 +12,6 @@ use sqlite_disk::Disk;
 use std::alloc::Global;
 use std::io::Write;
 use std::rt::Files as FileHandle;
-use trial_office::{SEED, Stopping, commands_of, show_outcomes};
 use wb_office::{SessionEnd, session};
 use wb_states::Command;
 
@@ -34,7 +38,10 @@ fn live<W: Write>(
     if !files.log.may_be_used() || !files.db.may_be_used() {
         bail!("a file cannot be used");
     }
-    match session(alloc, files, Options::new(SEED), commands.as_slice()) {
+    begin(alloc);
+    let lived = session(alloc, files, Options::new(SEED), commands.as_slice());
+    stop(alloc);
+    match lived {
         Ok(SessionEnd { outcomes, files }) => {
             show_outcomes(alloc, commands.as_slice(), outcomes.as_slice(), output)?;
             Ok(files)

@@ -1,9 +1,9 @@
 //! The stages of a trial, from its line.
 
+use crate::images::Stop;
 use anyhow::{Context, Result, bail};
 use std::alloc::Global;
 use std::str::SplitWhitespace;
-use trial_office::Stop;
 
 /// What an office does until its files stop.
 #[derive(Clone, Copy)]

@@ -1,17 +1,17 @@
 //! The work of an office over files that stop.
 
+use crate::images::{Images, Stopping};
+use crate::office::TrialOffice;
+use crate::openings::{GivenBack, prepared};
 use crate::stops::lists::FileLists;
 use crate::stops::session;
 use crate::stops::stage::{Stage, Work};
 use anyhow::Result;
-use sqlite::{FileStore, Files};
+use sqlite::Files;
 use std::alloc::Global;
 use std::fs;
 use std::io::Write;
 use std::rt::Files as FileHandle;
-use trial_office::{GivenBack, Images, Stopping, opened, prepared};
-use wb_daemon::run_lines;
-use wb_office::Office;
 use wb_streams::{WatchedReader, WatchedWriter};
 
 /// What the files hold after a stage that begins with these; none if they were not given back.
@@ -44,32 +44,29 @@ fn run<F: FileHandle + AllocGlobal, W: Write>(
     output: &mut W,
 ) -> Result<Files<Stopping>> {
     let lines = fs::read(rt, name)?;
-    let mut office = opened(alloc, files)?;
+    let mut office = TrialOffice::open(alloc, files)?;
     let mut answers: Vec<u8> = Vec::new(alloc);
     answer(rt, alloc, &mut office, &lines, &mut answers);
     output.write_all(&answers)?;
     Ok(office.surrender())
 }
 
-/// An office over files that may stop.
-pub(crate) type StoppingOffice = Office<FileStore<Stopping>>;
-
 /// Answers the lines.
 pub(crate) fn answer<F: FileHandle + AllocGlobal>(
     rt: &F,
     alloc: Global,
-    office: &mut StoppingOffice,
+    office: &mut TrialOffice,
     lines: &[u8],
     answers: &mut Vec<u8>,
 ) {
     let mut reader = WatchedReader::new(lines);
     let mut writer = WatchedWriter::new(answers);
     let mut lists = FileLists { rt };
-    let _ = run_lines(alloc, office, &mut reader, &mut writer, &mut lists);
+    let _ = office.answer_lines(alloc, &mut reader, &mut writer, &mut lists);
 }
 
 /// The files, once the fault is written.
-fn told<W: Write>(given: GivenBack<Stopping>, output: &mut W) -> Result<Files<Stopping>> {
+fn told<W: Write>(given: GivenBack, output: &mut W) -> Result<Files<Stopping>> {
     let GivenBack { files, fault } = given;
     if let Some(fault) = fault {
         writeln!(output, "fault {}", fault.name())?;

@@ -1,44 +1,15 @@
-//! Files in memory that stand for a device: what they ask for is never refused.
+//! A file whose own memory is never refused.
 
 use crate::refusing::{go_on, pause};
-use anyhow::Result;
-use sqlite::Files;
 use sqlite_disk::{Crash, Disk, Tally};
 use std::alloc::Global;
 use std::io;
-use trial_office::{Images, Stopping};
 
-/// A file whose own memory is never refused.
+/// A file that stands for a device: what it asks for is never refused.
 #[derive(Drop)]
 pub(crate) struct Device<D: Disk> {
-    alloc: Global,
-    inner: D,
-}
-
-/// A file in memory.
-pub(crate) type Kept = Device<Stopping>;
-
-/// Files that hold this.
-pub(crate) fn files_of(alloc: Global, images: &Images) -> Result<Files<Kept>> {
-    let Files { log, db } = images.files(alloc, u64::MAX, u64::MAX)?;
-    Ok(Files {
-        log: Device { alloc, inner: log },
-        db: Device { alloc, inner: db },
-    })
-}
-
-/// What the files hold.
-pub(crate) fn images_of(alloc: Global, files: Files<Kept>) -> Result<Images> {
-    let Files { log, db } = files;
-    let Device {
-        alloc: _,
-        inner: log,
-    } = log;
-    let Device {
-        alloc: _,
-        inner: db,
-    } = db;
-    Ok(Images::of(alloc, &Files { log, db })?)
+    pub(crate) alloc: Global,
+    pub(crate) inner: D,
 }
 
 impl<D: Disk> Disk for Device<D> {

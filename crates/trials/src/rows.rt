@@ -35,7 +35,7 @@ const FIRST_RECORDS: (&str, &str) = (
 );
 
 /// Writes each row of the office in the files, or why there is none.
-pub fn show_rows<W: Write>(alloc: Global, images: &Images, output: &mut W) -> Result<()> {
+pub(crate) fn show_rows<W: Write>(alloc: Global, images: &Images, output: &mut W) -> Result<()> {
     let Some(mut conn) = opened(alloc, images, output)? else {
         return Ok(());
     };
@@ -47,7 +47,11 @@ pub fn show_rows<W: Write>(alloc: Global, images: &Images, output: &mut W) -> Re
 }
 
 /// Writes each row of the tables of both schemas that the files hold, or why there is none; no office is opened.
-pub fn show_unopened_rows<W: Write>(alloc: Global, images: &Images, output: &mut W) -> Result<()> {
+pub(crate) fn show_unopened_rows<W: Write>(
+    alloc: Global,
+    images: &Images,
+    output: &mut W,
+) -> Result<()> {
     let Some(mut conn) = opened(alloc, images, output)? else {
         return Ok(());
     };

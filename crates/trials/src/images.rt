@@ -4,33 +4,34 @@ ghost use Rattle.std.specs.Prelude.{◌≡◌, ◌↔◌, ℕ, List, IsTrue, IfO
 ghost use Rattle.sqlite_disk.specs.Disk.{Only};
 ghost use Rattle.sqlite_disk.specs.Memory.{memory_bytes, memory_is_usable};
 
+use crate::device::Device;
 use sqlite::Files;
 use sqlite_disk::{Crash, Disk, Fuse, Memory};
 use std::alloc::{AllocError, Global};
 use std::io;
 
-/// A file in memory that stops at a call.
-pub type Stopping = Fuse<Memory>;
+/// A file in memory that stops at a call, and stands for a device.
+pub(crate) type Stopping = Device<Fuse<Memory>>;
 
 /// When a file stops, and what is left of it.
 #[derive(Clone, Copy)]
-pub struct Stop {
+pub(crate) struct Stop {
     /// How many calls it takes.
-    pub calls: u64,
+    pub(crate) calls: u64,
     /// Whether all that was written is left, or only what was synced.
-    pub is_kept: bool,
+    pub(crate) is_kept: bool,
 }
 
 /// What the two files hold.
 #[derive(Drop)]
-pub struct Images {
+pub(crate) struct Images {
     log: Vec<u8>,
     db: Vec<u8>,
 }
 
 impl Images {
     /// Empty files.
-    pub fn none(alloc: Global) -> Images {
+    pub(crate) fn none(alloc: Global) -> Images {
         Images {
             log: Vec::new(alloc),
             db: Vec::new(alloc),
@@ -38,7 +39,7 @@ impl Images {
     }
 
     /// A database of these bytes, and an empty log.
-    pub fn begun(alloc: Global, db: Vec<u8>) -> Images {
+    pub(crate) fn begun(alloc: Global, db: Vec<u8>) -> Images {
         Images {
             log: Vec::new(alloc),
             db,
@@ -46,7 +47,7 @@ impl Images {
     }
 
     /// The same once more.
-    pub fn copied(&self) -> Result<Images, AllocError> {
+    pub(crate) fn copied(&self) -> Result<Images, AllocError> {
         Ok(Images {
             log: self.log.clone()?,
             db: self.db.clone()?,
@@ -54,7 +55,7 @@ impl Images {
     }
 
     /// Files that hold this, and take so many calls.
-    pub fn files(
+    pub(crate) fn files(
         &self,
         alloc: Global,
         log_calls: u64,
@@ -67,7 +68,7 @@ impl Images {
     }
 
     /// What the files hold.
-    pub fn of<D: Fused>(alloc: Global, files: &Files<D>) -> Result<Images, AllocError> {
+    pub(crate) fn of<D: Fused>(alloc: Global, files: &Files<D>) -> Result<Images, AllocError> {
         let mut images = Images::none(alloc);
         images.log.extend_from_slice(files.log.bytes())?;
         images.db.extend_from_slice(files.db.bytes())?;
@@ -75,7 +76,7 @@ impl Images {
     }
 
     /// What is left of the files after these stops.
-    pub fn left(
+    pub(crate) fn left(
         alloc: Global,
         files: Files<Stopping>,
         log: Stop,
@@ -89,7 +90,7 @@ impl Images {
 }
 
 /// A file that can be made to stop.
-pub trait Fused: Crash {
+pub(crate) trait Fused: Crash {
     /// What the file holds.
     fn bytes(&self) -> &[u8];
 
@@ -101,12 +102,26 @@ pub trait Fused: Crash {
         ensures usable { IsTrue (Self.Disk.is_usable result) };
 }
 
-impl Fused for Stopping {
+impl<D: Fused> Fused for Device<D> {
+    fn bytes(&self) -> &[u8] {
+        self.inner.bytes()
+    }
+
+    fn fused(self, alloc: Global, calls: u64) -> Device<D> {
+        let Device { alloc: kept, inner } = self;
+        Device {
+            alloc: kept,
+            inner: inner.fused(alloc, calls),
+        }
+    }
+}
+
+impl Fused for Fuse<Memory> {
     fn bytes(&self) -> &[u8] {
         self.inner().bytes()
     }
 
-    fn fused(self, alloc: Global, calls: u64) -> Stopping {
+    fn fused(self, alloc: Global, calls: u64) -> Fuse<Memory> {
         if let Ok(disk) = memory_of(alloc, self.inner().bytes()) {
             if are_same(disk.bytes(), self.inner().bytes()) {
                 return Fuse::new(disk, calls);
@@ -118,7 +133,10 @@ impl Fused for Stopping {
 
 /// A file that holds these bytes, synced, and takes so many calls.
 fn disk_of(alloc: Global, bytes: &[u8], calls: u64) -> io::Result<Stopping> {
-    Ok(Fuse::new(memory_of(alloc, bytes)?, calls))
+    Ok(Device {
+        alloc,
+        inner: Fuse::new(memory_of(alloc, bytes)?, calls),
+    })
 }
 
 /// Whether two files hold the same.
@@ -145,6 +163,6 @@ fn bytes_left(alloc: Global, mut disk: Stopping, stop: Stop) -> Result<Vec<u8>, 
         disk.crash();
     }
     let mut bytes = Vec::new(alloc);
-    bytes.extend_from_slice(disk.inner().bytes())?;
+    bytes.extend_from_slice(disk.bytes())?;
     Ok(bytes)
 }

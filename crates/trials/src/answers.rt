@@ -10,7 +10,7 @@ use wb_states::Command;
 
 /// Writes what each life found, the count of accepted commands and that of rows, or the fault of its opening; and what its commands were
 /// answered.
-pub fn show_found<W: Write>(
+pub(crate) fn show_found<W: Write>(
     alloc: Global,
     commands: &[Items<Command>],
     found: &[Found],
@@ -33,7 +33,7 @@ pub fn show_found<W: Write>(
 }
 
 /// Writes what the commands of a life were answered.
-pub fn show_outcomes<W: Write>(
+pub(crate) fn show_outcomes<W: Write>(
     alloc: Global,
     commands: &[Command],
     outcomes: &[Outcome],
@@ -46,7 +46,7 @@ pub fn show_outcomes<W: Write>(
 }
 
 /// Writes what a command of this name was answered.
-pub fn show_outcome<W: Write>(
+pub(crate) fn show_outcome<W: Write>(
     alloc: Global,
     name: &str,
     outcome: &Outcome,
@@ -60,7 +60,7 @@ pub fn show_outcome<W: Write>(
 }
 
 /// The word for how an exchange ended, and the status of what was answered; 0 for none.
-pub fn word_of(served: Served) -> (&'static str, u16) {
+pub(crate) fn word_of(served: Served) -> (&'static str, u16) {
     match served {
         Served::Nothing => ("nothing", 0),
         Served::ReadFailed => ("read-failed", 0),
