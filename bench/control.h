@@ -1,5 +1,5 @@
-/* Texts, versions, architectures, relations and paragraphs of control data, as Debian Policy has them, for merge_beside_sqlite.c. They are read as a
- * merge reads them, but for the faults: a list is taken for well-formed. */
+/* Texts, versions, architectures, relations and paragraphs of control data, as Debian Policy has them, for
+ * merge_beside_sqlite.c. They are read as a merge reads them, but for the faults: a list is taken for well-formed. */
 #include <ctype.h>
 #include <stdio.h>
 #include <stdlib.h>
@@ -17,7 +17,8 @@ static void fail(const char *what);
 struct text { char *at; size_t size, room; };
 
 static void add(struct text *to, const char *from, size_t size) {
-    if (to->size + size + 1 > to->room && !(to->at = realloc(to->at, to->room = 2 * (to->size + size) + 64))) fail("memory");
+    if (to->size + size + 1 > to->room && !(to->at = realloc(to->at, to->room = 2 * (to->size + size) + 64)))
+        fail("memory");
     memcpy(to->at + to->size, from, size);
     to->size += size;
     to->at[to->size] = 0;
@@ -36,7 +37,9 @@ static char *copy(const char *text) {
     return made;
 }
 
-static int same(const char *one, const char *other) { return one == other || (one && other && strcmp(one, other) == 0); }
+static int same(const char *one, const char *other) {
+    return one == other || (one && other && strcmp(one, other) == 0);
+}
 
 static int is_blank(char of) { return of == ' ' || of == '\t'; }
 
@@ -51,7 +54,8 @@ static int weight(const char *at, const char *end) {
 static int compare_parts(const char *one, const char *one_end, const char *other, const char *other_end) {
     while (one < one_end || other < other_end) {
         int first = 0;
-        while ((one < one_end && !isdigit((unsigned char)*one)) || (other < other_end && !isdigit((unsigned char)*other))) {
+        while ((one < one_end && !isdigit((unsigned char)*one)) ||
+            (other < other_end && !isdigit((unsigned char)*other))) {
             int differ = weight(one, one_end) - weight(other, other_end);
             if (differ) return differ;
             one++, other++;
@@ -72,7 +76,8 @@ static int compare_parts(const char *one, const char *one_end, const char *other
 struct version { long epoch; const char *upstream, *upstream_end, *revision, *end; };
 
 static struct version parts_of(const char *text) {
-    const char *colon = strchr(text, ':'), *upstream = colon ? colon + 1 : text, *end = text + strlen(text), *hyphen = strrchr(upstream, '-');
+    const char *colon = strchr(text, ':'), *upstream = colon ? colon + 1 : text, *end = text + strlen(text),
+               *hyphen = strrchr(upstream, '-');
     return (struct version){colon ? atol(text) : 0, upstream, hyphen ? hyphen : end, hyphen ? hyphen + 1 : end, end};
 }
 
@@ -87,7 +92,9 @@ static int compare(const char *one_text, const char *other_text) {
 static int rebuild_number(const char *version) {
     const char *end = version + strlen(version), *digits = end;
     while (digits > version && isdigit((unsigned char)digits[-1])) digits--;
-    return digits < end && end - digits <= 3 && digits - version >= 2 && digits[-1] == 'b' && digits[-2] == '+' ? atoi(digits) : 0;
+    return digits < end && end - digits <= 3 && digits - version >= 2 && digits[-1] == 'b' && digits[-2] == '+'
+        ? atoi(digits)
+        : 0;
 }
 
 /* ---- architectures and relations (Debian Policy 7.1), reduced for one and printed */
@@ -96,12 +103,14 @@ struct arch { char *name, *os, *cpu; };
 
 static int is_joined(const char *word, size_t size, const char *front, const char *back) {
     size_t split = strlen(front);
-    return size == split + strlen(back) && strncmp(word, front, split) == 0 && strncmp(word + split, back, size - split) == 0;
+    return size == split + strlen(back) && strncmp(word, front, split) == 0 &&
+        strncmp(word + split, back, size - split) == 0;
 }
 
 static int matches(const char *word, size_t size, const struct arch *arch) {
-    return is_joined(word, size, arch->name, "") || is_joined(word, size, "any", "") || is_joined(word, size, "any-any", "")
-        || is_joined(word, size, arch->os, "-any") || is_joined(word, size, "any-", arch->cpu);
+    return is_joined(word, size, arch->name, "") || is_joined(word, size, "any", "") ||
+        is_joined(word, size, "any-any", "") || is_joined(word, size, arch->os, "-any") ||
+        is_joined(word, size, "any-", arch->cpu);
 }
 
 static int is_listed(const char *words, const struct arch *arch) {
@@ -169,7 +178,8 @@ static int holds_without_profiles(struct piece inside) {
 }
 
 static const char *operator_of(struct piece word) {
-    static const char *const known[][2] = {{"<<", "<<"}, {"<=", "<="}, {"<", "<="}, {"=", "="}, {">=", ">="}, {">", ">="}, {">>", ">>"}};
+    static const char *const known[][2] = {
+        {"<<", "<<"}, {"<=", "<="}, {"<", "<="}, {"=", "="}, {">=", ">="}, {">", ">="}, {">>", ">>"}};
     size_t size = (size_t)(word.end - word.at);
     for (size_t k = 0; k < sizeof known / sizeof *known; k++)
         if (strlen(known[k][0]) == size && strncmp(known[k][0], word.at, size) == 0) return known[k][1];
@@ -194,7 +204,8 @@ static int print_restriction(struct piece inside, struct text *to) {
     return 1;
 }
 
-/* Prints the alternative without its lists, and says whether it is asked for on the architecture; -1 if it cannot be read. */
+/* Prints the alternative without its lists, and says whether it is asked for on the architecture; -1 if it cannot be
+ * read. */
 static int print_alternative(struct piece of, const struct arch *arch, struct text *to) {
     struct piece inside;
     int found, is_kept = 1, has_profiles = 0, is_held = 0;
@@ -212,7 +223,8 @@ static int print_alternative(struct piece of, const struct arch *arch, struct te
     if ((found = take_inside(&of, '(', ')', &inside)) < 0 || (found && !print_restriction(inside, to))) return -1;
     if ((found = take_inside(&of, '[', ']', &inside)) < 0) return -1;
     if (found) is_kept = is_for_arch(inside, arch);
-    while ((found = take_inside(&of, '<', '>', &inside)) > 0) has_profiles = 1, is_held |= holds_without_profiles(inside);
+    while ((found = take_inside(&of, '<', '>', &inside)) > 0)
+        has_profiles = 1, is_held |= holds_without_profiles(inside);
     return found < 0 || of.at < of.end ? -1 : is_kept && (!has_profiles || is_held);
 }
 
@@ -264,7 +276,9 @@ static int print_reduced(const char *text, const struct arch *arch, struct text 
 static char *depends_of(const char *depends, const char *depends_arch, const struct arch *arch) {
     static struct text made;
     empty(&made);
-    if (!print_reduced(depends, arch, &made) || !print_reduced(depends_arch, arch, &made) || made.size > RELATIONS_LIMIT) return NULL;
+    if (!print_reduced(depends, arch, &made) || !print_reduced(depends_arch, arch, &made) ||
+        made.size > RELATIONS_LIMIT)
+        return NULL;
     return copy(made.at);
 }
 
@@ -285,7 +299,8 @@ static struct field *begin_field(struct field *fields, size_t count, const char 
     const char *colon = memchr(line, ':', (size_t)(end - line));
     if (!colon) fail(line);
     for (struct field *of = fields; of < fields + count; of++) {
-        if (strlen(of->name) != (size_t)(colon - line) || strncasecmp(of->name, line, (size_t)(colon - line)) != 0) continue;
+        if (strlen(of->name) != (size_t)(colon - line) || strncasecmp(of->name, line, (size_t)(colon - line)) != 0)
+            continue;
         of->is_there = 1;
         add_trimmed(&of->value, colon + 1, end);
         return of;

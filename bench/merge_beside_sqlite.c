@@ -1,38 +1,50 @@
-/* The merge of an office over SQLite's C library, for bench/merge_beside_sqlite to compare with: `merge_beside_sqlite FILE` answers the lines
- * add-arch and merge by the SQL texts of wb_sql, in the order in which wb_archive runs them, over the same tables. The lists are read paragraph by
- * paragraph into the two scratch tables, each source package is decided from its own rows, and only records that differ are written, in one
- * transaction. Its answers are those of the office.
- * The pragmas are what `wb` asks of the kit's `sqlite`: a log that is synced at each commit and copied at 8,000 pages, foreign keys, pages of 4,096
- * bytes, 2,000 of them cached, and nobody else at the file. Pages that were written go to the log once the cache is full, and those of the office
- * every 500. Eight bytes of each page are left free, where the office has its checksums; nothing is written there.
- * It knows only what the measured lines need: lists that are well-formed, and records that merges alone made, none of which waits for packages. */
+/* The merge of an office over SQLite's C library, for bench/merge_beside_sqlite to compare with: `merge_beside_sqlite
+ * FILE` answers the lines add-arch and merge by the SQL texts of wb_sql, in the order in which wb_archive runs them,
+ * over the same tables. The lists are read paragraph by paragraph into the two scratch tables, each source package is
+ * decided from its own rows, and only records that differ are written, in one transaction. Its answers are those of the
+ * office.
+ * The pragmas are what `wb` asks of the kit's `sqlite`: a log that is synced at each commit and copied at 8,000 pages,
+ * foreign keys, pages of 4,096 bytes, 2,000 of them cached, and nobody else at the file. Pages that were written go to
+ * the log once the cache is full, and those of the office every 500. Eight bytes of each page are left free, where the
+ * office has its checksums; nothing is written there. It knows only what the measured lines need: lists that are well-
+ * formed, and records that merges alone made, none of which waits for packages. */
 #include "control.h"
 #include <sqlite3.h>
 
 enum { NEEDS_BUILD = 0, INSTALLED = 4, DEP_WAIT = 5 };
 enum { PLACES = 1000, CHECKSUM = 8 };
 
-#define COLUMNS "arch, source, state, version, priority, section, earlier, number, holder, take, waits, depends, note, message, build_priority, rank"
+#define COLUMNS                                                                                                        \
+    "arch, source, state, version, priority, section, earlier, number, holder, take, waits, depends, note, message, "  \
+    "build_priority, rank"
 
-static const char *const PRAGMAS =
-    "PRAGMA page_size=4096; PRAGMA journal_mode=WAL; PRAGMA synchronous=FULL; PRAGMA wal_autocheckpoint=8000; PRAGMA foreign_keys=ON;"
-    "PRAGMA cache_size=2000; PRAGMA locking_mode=EXCLUSIVE;";
+static const char *const PRAGMAS = "PRAGMA page_size=4096; PRAGMA journal_mode=WAL; PRAGMA synchronous=FULL; PRAGMA "
+                                   "wal_autocheckpoint=8000; PRAGMA foreign_keys=ON;"
+                                   "PRAGMA cache_size=2000; PRAGMA locking_mode=EXCLUSIVE;";
 
 static const char *const SCHEMA =
     "BEGIN;"
-    "CREATE TABLE office(id INTEGER PRIMARY KEY CHECK(id = 1), format INTEGER NOT NULL, handed INTEGER NOT NULL, accepted INTEGER NOT NULL) STRICT;"
+    "CREATE TABLE office(id INTEGER PRIMARY KEY CHECK(id = 1), format INTEGER NOT NULL, handed INTEGER NOT NULL, "
+    "accepted INTEGER NOT NULL) STRICT;"
     "CREATE TABLE arch(name TEXT NOT NULL PRIMARY KEY, os TEXT NOT NULL, cpu TEXT NOT NULL) STRICT;"
-    "CREATE TABLE builder(name TEXT NOT NULL, arch TEXT NOT NULL REFERENCES arch(name), PRIMARY KEY(name, arch)) STRICT;"
-    "CREATE TABLE source_record(arch TEXT NOT NULL REFERENCES arch(name), source TEXT NOT NULL, state INTEGER NOT NULL, version TEXT NOT NULL,"
-    " priority TEXT NOT NULL, section TEXT NOT NULL, earlier INTEGER NOT NULL, number INTEGER NOT NULL, holder TEXT, take INTEGER,"
-    " waits TEXT NOT NULL, depends TEXT, note TEXT NOT NULL, message TEXT NOT NULL, build_priority INTEGER NOT NULL, rank INTEGER NOT NULL,"
+    "CREATE TABLE builder(name TEXT NOT NULL, arch TEXT NOT NULL REFERENCES arch(name), PRIMARY KEY(name, arch)) "
+    "STRICT;"
+    "CREATE TABLE source_record(arch TEXT NOT NULL REFERENCES arch(name), source TEXT NOT NULL, state INTEGER NOT "
+    "NULL, version TEXT NOT NULL,"
+    " priority TEXT NOT NULL, section TEXT NOT NULL, earlier INTEGER NOT NULL, number INTEGER NOT NULL, holder TEXT, "
+    "take INTEGER,"
+    " waits TEXT NOT NULL, depends TEXT, note TEXT NOT NULL, message TEXT NOT NULL, build_priority INTEGER NOT NULL, "
+    "rank INTEGER NOT NULL,"
     " PRIMARY KEY(arch, source)) STRICT;"
     "CREATE INDEX record_order ON source_record(arch, state, rank, source);"
     "CREATE INDEX record_take ON source_record(take);"
-    "CREATE TABLE scratch_source(seq INTEGER PRIMARY KEY, name TEXT NOT NULL, version TEXT NOT NULL, architecture TEXT NOT NULL,"
-    " extra INTEGER NOT NULL, priority TEXT NOT NULL, section TEXT NOT NULL, depends TEXT NOT NULL, depends_arch TEXT NOT NULL) STRICT;"
+    "CREATE TABLE scratch_source(seq INTEGER PRIMARY KEY, name TEXT NOT NULL, version TEXT NOT NULL, architecture TEXT "
+    "NOT NULL,"
+    " extra INTEGER NOT NULL, priority TEXT NOT NULL, section TEXT NOT NULL, depends TEXT NOT NULL, depends_arch TEXT "
+    "NOT NULL) STRICT;"
     "CREATE INDEX source_name ON scratch_source(name, seq);"
-    "CREATE TABLE scratch_binary(seq INTEGER PRIMARY KEY, name TEXT NOT NULL, version TEXT NOT NULL, source TEXT NOT NULL,"
+    "CREATE TABLE scratch_binary(seq INTEGER PRIMARY KEY, name TEXT NOT NULL, version TEXT NOT NULL, source TEXT NOT "
+    "NULL,"
     " source_version TEXT NOT NULL, number INTEGER NOT NULL, own INTEGER NOT NULL) STRICT;"
     "CREATE INDEX binary_source ON scratch_binary(source, seq);"
     "CREATE INDEX binary_name ON scratch_binary(name, seq);"
@@ -40,8 +52,9 @@ static const char *const SCHEMA =
     "COMMIT;";
 
 enum statement {
-    BEGIN, COMMIT, SAVE, RELEASE, COUNTS, SET_COUNTS, ARCHS, ADD_ARCH, PAIRS, ALL, FIRST_SOURCE, FIRST_BINARY, RECORD, IN_STATE, OF_ARCH, PUT, REMOVE,
-    ADD_SOURCE, ADD_BINARY, SOURCE_NAMES, SOURCES_NAMED, BINARIES_OF, REMOVE_SOURCES, REMOVE_BINARIES, CLEAR_SOURCES, CLEAR_BINARIES, KINDS
+    BEGIN, COMMIT, SAVE, RELEASE, COUNTS, SET_COUNTS, ARCHS, ADD_ARCH, PAIRS, ALL, FIRST_SOURCE, FIRST_BINARY, RECORD,
+    IN_STATE, OF_ARCH, PUT, REMOVE, ADD_SOURCE, ADD_BINARY, SOURCE_NAMES, SOURCES_NAMED, BINARIES_OF, REMOVE_SOURCES,
+    REMOVE_BINARIES, CLEAR_SOURCES, CLEAR_BINARIES, KINDS
 };
 
 static const char *const TEXTS[KINDS] = {
@@ -60,17 +73,23 @@ static const char *const TEXTS[KINDS] = {
     [RECORD] = "SELECT " COLUMNS " FROM source_record WHERE arch = ?1 AND source = ?2",
     [IN_STATE] = "SELECT " COLUMNS " FROM source_record WHERE arch = ?1 AND state = ?2 ORDER BY source",
     [OF_ARCH] = "SELECT " COLUMNS " FROM source_record WHERE arch = ?1 ORDER BY source",
-    [PUT] = "INSERT INTO source_record(" COLUMNS ") VALUES (?1, ?2, ?3, ?4, ?5, ?6, ?7, ?8, ?9, ?10, ?11, ?12, ?13, ?14, ?15, ?16)"
-            " ON CONFLICT(arch, source) DO UPDATE SET state = ?3, version = ?4, priority = ?5, section = ?6, earlier = ?7,"
-            " number = ?8, holder = ?9, take = ?10, waits = ?11, depends = ?12, note = ?13, message = ?14, build_priority = ?15, rank = ?16",
+    [PUT] =
+        "INSERT INTO source_record(" COLUMNS
+        ") VALUES (?1, ?2, ?3, ?4, ?5, ?6, ?7, ?8, ?9, ?10, ?11, ?12, ?13, ?14, ?15, ?16)"
+        " ON CONFLICT(arch, source) DO UPDATE SET state = ?3, version = ?4, priority = ?5, section = ?6, earlier = ?7,"
+        " number = ?8, holder = ?9, take = ?10, waits = ?11, depends = ?12, note = ?13, message = ?14, build_priority "
+        "= ?15, rank = ?16",
     [REMOVE] = "DELETE FROM source_record WHERE arch = ?1 AND source = ?2",
-    [ADD_SOURCE] = "INSERT INTO scratch_source(seq, name, version, architecture, extra, priority, section, depends, depends_arch)"
-                   " VALUES (?1, ?2, ?3, ?4, ?5, ?6, ?7, ?8, ?9)",
-    [ADD_BINARY] = "INSERT INTO scratch_binary(seq, name, version, source, source_version, number, own) VALUES (?1, ?2, ?3, ?4, ?5, ?6, ?7)",
+    [ADD_SOURCE] =
+        "INSERT INTO scratch_source(seq, name, version, architecture, extra, priority, section, depends, depends_arch)"
+        " VALUES (?1, ?2, ?3, ?4, ?5, ?6, ?7, ?8, ?9)",
+    [ADD_BINARY] = "INSERT INTO scratch_binary(seq, name, version, source, source_version, number, own) VALUES (?1, "
+                   "?2, ?3, ?4, ?5, ?6, ?7)",
     [SOURCE_NAMES] = "SELECT name FROM scratch_source ORDER BY name, seq",
     [SOURCES_NAMED] = "SELECT seq, name, version, architecture, extra, priority, section, depends, depends_arch"
                       " FROM scratch_source WHERE name = ?1 ORDER BY seq",
-    [BINARIES_OF] = "SELECT seq, name, version, source, source_version, number, own FROM scratch_binary WHERE source = ?1 ORDER BY seq",
+    [BINARIES_OF] = "SELECT seq, name, version, source, source_version, number, own FROM scratch_binary WHERE source = "
+                    "?1 ORDER BY seq",
     [REMOVE_SOURCES] = "DELETE FROM scratch_source WHERE seq <= ?1",
     [REMOVE_BINARIES] = "DELETE FROM scratch_binary WHERE seq <= ?1",
     [CLEAR_SOURCES] = "DELETE FROM scratch_source",
@@ -94,12 +113,16 @@ static void run(const char *texts) {
 
 /* The statement, prepared once, at its start. */
 static sqlite3_stmt *ready(enum statement which) {
-    if (!prepared[which] && sqlite3_prepare_v3(db, TEXTS[which], -1, SQLITE_PREPARE_PERSISTENT, &prepared[which], NULL) != SQLITE_OK) fail(TEXTS[which]);
+    if (!prepared[which] &&
+        sqlite3_prepare_v3(db, TEXTS[which], -1, SQLITE_PREPARE_PERSISTENT, &prepared[which], NULL) != SQLITE_OK)
+        fail(TEXTS[which]);
     sqlite3_reset(prepared[which]);
     return prepared[which];
 }
 
-static void bind(sqlite3_stmt *at, int place, const char *value) { sqlite3_bind_text(at, place, value, -1, SQLITE_STATIC); }
+static void bind(sqlite3_stmt *at, int place, const char *value) {
+    sqlite3_bind_text(at, place, value, -1, SQLITE_STATIC);
+}
 
 static int has_row(sqlite3_stmt *at) {
     int status = sqlite3_step(at);
@@ -124,16 +147,28 @@ struct record {
 static int next_record(sqlite3_stmt *at, struct record *made) {
     if (!has_row(at)) return 0;
     *made = (struct record){
-        .arch = column(at, 0), .source = column(at, 1), .state = sqlite3_column_int64(at, 2), .version = column(at, 3),
-        .priority = column(at, 4), .section = column(at, 5), .earlier = sqlite3_column_int64(at, 6), .number = sqlite3_column_int64(at, 7),
-        .holder = column(at, 8), .take = sqlite3_column_int64(at, 9), .waits = column(at, 10), .depends = column(at, 11),
-        .note = column(at, 12), .message = column(at, 13), .build_priority = sqlite3_column_int64(at, 14),
+        .arch = column(at, 0),
+        .source = column(at, 1),
+        .state = sqlite3_column_int64(at, 2),
+        .version = column(at, 3),
+        .priority = column(at, 4),
+        .section = column(at, 5),
+        .earlier = sqlite3_column_int64(at, 6),
+        .number = sqlite3_column_int64(at, 7),
+        .holder = column(at, 8),
+        .take = sqlite3_column_int64(at, 9),
+        .waits = column(at, 10),
+        .depends = column(at, 11),
+        .note = column(at, 12),
+        .message = column(at, 13),
+        .build_priority = sqlite3_column_int64(at, 14),
     };
     return 1;
 }
 
 static void drop(struct record *old) {
-    char *texts[] = {old->arch, old->source, old->version, old->priority, old->section, old->holder, old->waits, old->depends, old->note, old->message};
+    char *texts[] = {old->arch, old->source, old->version, old->priority, old->section, old->holder, old->waits,
+        old->depends, old->note, old->message};
     for (size_t k = 0; k < sizeof texts / sizeof *texts; k++) free(texts[k]);
 }
 
@@ -155,8 +190,9 @@ static sqlite3_int64 place_of(const char *word, size_t size, const char *const *
 
 static sqlite3_int64 rank_of(const struct record *of) {
     static const char *const priorities[] = {"required", "important", "standard", "optional", "extra"};
-    static const char *const sections[] = {"libs", "base", "devel", "kernel", "shells", "perl", "python", "admin", "utils", "text", "net", "web", "mail",
-        "database", "editors", "interpreters", "graphics", "sound", "video", "x11", "gnome", "kde", "science", "math", "doc", "misc", "oldlibs", "games"};
+    static const char *const sections[] = {"libs", "base", "devel", "kernel", "shells", "perl", "python", "admin",
+        "utils", "text", "net", "web", "mail", "database", "editors", "interpreters", "graphics", "sound", "video",
+        "x11", "gnome", "kde", "science", "math", "doc", "misc", "oldlibs", "games"};
     const char *slash = strchr(of->section, '/'), *section = slash ? slash + 1 : of->section;
     sqlite3_int64 by_priority = place_of(of->priority, strlen(of->priority), priorities, 5);
     sqlite3_int64 by_section = place_of(section, strlen(section), sections, 28);
@@ -211,8 +247,8 @@ static void note_place(sqlite3_int64 place) {
 }
 
 static void fill_sources(const char *name, const struct arch *archs, int count) {
-    static struct field fields[] = {{"Package"}, {"Version"}, {"Architecture"}, {"Priority"}, {"Section"}, {"Build-Depends"}, {"Build-Depends-Arch"},
-        {"Extra-Source-Only"}};
+    static struct field fields[] = {{"Package"}, {"Version"}, {"Architecture"}, {"Priority"}, {"Section"},
+        {"Build-Depends"}, {"Build-Depends-Arch"}, {"Extra-Source-Only"}};
     struct list from = open_list(name);
     while (next_paragraph(&from, fields, sizeof fields / sizeof *fields)) {
         if (strcmp(fields[7].value.at, "yes") == 0 || !is_wanted(value_of(&from, &fields[2]), archs, count)) continue;
@@ -247,9 +283,11 @@ static void fill_binaries(const char *name, const struct arch *arch) {
         if (strcmp(value_of(&from, &fields[2]), arch->name) != 0) continue;
         const char *package = value_of(&from, &fields[0]), *version = value_of(&from, &fields[1]);
         char *version_of = fields[3].is_there ? cut_source(fields[3].value.at) : NULL;
-        const char *source = fields[3].is_there ? fields[3].value.at : package, *source_version = version_of ? version_of : version;
+        const char *source = fields[3].is_there ? fields[3].value.at : package,
+                   *source_version = version_of ? version_of : version;
         int number = version_of ? rebuild_number(version) : 0;
-        if (last_source && same(last_source, source) && same(last_version, source_version) && last_number == number) continue;
+        if (last_source && same(last_source, source) && same(last_version, source_version) && last_number == number)
+            continue;
         free(last_source), free(last_version);
         last_source = copy(source), last_version = copy(source_version), last_number = number;
         sqlite3_stmt *at = ready(ADD_BINARY);
@@ -291,7 +329,8 @@ static int find_listed(const char *source, const struct arch *arch, struct liste
     bind(at, 1, source);
     while (has_row(at)) {
         const char *version = (const char *)sqlite3_column_text(at, 2);
-        if (!is_listed((const char *)sqlite3_column_text(at, 3), arch) || (best[0] && compare(version, best[0]) <= 0)) continue;
+        if (!is_listed((const char *)sqlite3_column_text(at, 3), arch) || (best[0] && compare(version, best[0]) <= 0))
+            continue;
         for (int k = 0; k < 6; k++) free(best[k]);
         best[0] = copy(version);
         for (int k = 1; k < 5; k++) best[k] = column(at, k + 4);
@@ -335,8 +374,9 @@ static struct record decided(const struct record *old, const struct listed *by, 
 }
 
 static int is_unchanged(const struct record *old, const struct record *new) {
-    return old->version && old->state == new->state && old->earlier == new->earlier && old->number == new->number && same(old->version, new->version)
-        && same(old->priority, new->priority) && same(old->section, new->section) && same(old->depends, new->depends);
+    return old->version && old->state == new->state && old->earlier == new->earlier &&
+        old->number == new->number &&same(old->version, new->version) && same(old->priority, new->priority) &&
+        same(old->section, new->section) && same(old->depends, new->depends);
 }
 
 /* Brings the record of a source package in line with its rows, and writes it if it is another one then. */
@@ -362,7 +402,8 @@ static void decide(const struct arch *arch, char *source, struct counts *counts)
 }
 
 static void add_name(struct names *to, char *name) {
-    if (to->count == to->room && !(to->at = realloc(to->at, (to->room = 2 * to->room + 64) * sizeof *to->at))) fail("memory");
+    if (to->count == to->room && !(to->at = realloc(to->at, (to->room = 2 * to->room + 64) * sizeof *to->at)))
+        fail("memory");
     to->at[to->count++] = name;
 }
 
@@ -371,7 +412,9 @@ static void drop_names(struct names *old) {
     free(old->at);
 }
 
-static int compare_names(const void *one, const void *other) { return strcmp(*(char *const *)one, *(char *const *)other); }
+static int compare_names(const void *one, const void *other) {
+    return strcmp(*(char *const *)one, *(char *const *)other);
+}
 
 /* The source packages of the architecture that have a record, then those that are listed and have none. */
 static struct names names_to_decide(const struct arch *arch) {
@@ -416,7 +459,8 @@ static struct counts merge_part(const struct arch *arch, const char *packages) {
 static int find_arch(const char *name, struct arch *made) {
     int is_found = 0;
     for (sqlite3_stmt *at = ready(ARCHS); has_row(at);)
-        if (strcmp((const char *)sqlite3_column_text(at, 0), name) == 0) *made = (struct arch){column(at, 0), column(at, 1), column(at, 2)}, is_found = 1;
+        if (strcmp((const char *)sqlite3_column_text(at, 0), name) == 0)
+            *made = (struct arch){column(at, 0), column(at, 1), column(at, 2)}, is_found = 1;
     return is_found;
 }
 
@@ -453,7 +497,8 @@ static void merge(char **words) {
     commit();
     printf("{\"accepted\":%lld,\"ok\":\"merge\",\"parts\":[", (long long)accepted);
     for (int k = 0; k < parts; k++) {
-        printf("%s{\"added\":%d,\"arch\":\"%s\",\"changed\":%d,", k ? "," : "", counts[k].added, archs[k].name, counts[k].changed);
+        printf("%s{\"added\":%d,\"arch\":\"%s\",\"changed\":%d,", k ? "," : "", counts[k].added, archs[k].name,
+            counts[k].changed);
         printf("\"kept\":%d,\"removed\":%d}", counts[k].kept, counts[k].removed);
         free(archs[k].name), free(archs[k].os), free(archs[k].cpu);
     }

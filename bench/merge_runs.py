@@ -1,7 +1,8 @@
-"""Runs of the program in which lists are merged, for bench/merge_beside_sqlite, bench/merge_pages and bench/merge_limits.
+"""Runs of the program in which lists are merged, for bench/merge_beside_sqlite, bench/merge_pages and
+bench/merge_limits.
 
-From the environment: WB is the program, ./wb of this repository where it is not set; FOLDER is where files are made, bench/out where it is not set
-(in a folder in memory a sync costs nothing).
+From the environment: WB is the program, ./wb of this repository where it is not set; FOLDER is where files are made,
+bench/out where it is not set (in a folder in memory a sync costs nothing).
 """
 import os
 import shutil
@@ -27,7 +28,9 @@ class Program:
     def __init__(self, words, folder):
         self.messages = Path(folder) / "messages"
         with open(self.messages, "ab") as messages:
-            self.process = subprocess.Popen(words, cwd=folder, stdin=subprocess.PIPE, stdout=subprocess.PIPE, stderr=messages)
+            self.process = subprocess.Popen(
+                words, cwd=folder, stdin=subprocess.PIPE, stdout=subprocess.PIPE, stderr=messages
+            )
         self.of = Path(f"/proc/{self.process.pid}")
 
     def ask(self, line):
@@ -80,7 +83,8 @@ class Lists:
 
 
 def lists_of(words, folder):
-    """The lists that these words name, SOURCES and then ARCH=PACKAGES for each part, or lists that are made in the folder if there are no words."""
+    """The lists that these words name, SOURCES and then ARCH=PACKAGES for each part, or lists that are made in the
+    folder if there are no words."""
     if not words:
         return make_lists(folder)
     parts = [word.partition("=") for word in words[1:]]
@@ -90,19 +94,33 @@ def lists_of(words, folder):
 
 
 def make_lists(folder, count=COUNT):
-    """Lists of so many source packages, of which two of three are built, in two packages each, and some in an earlier version."""
+    """Lists of so many source packages, of which two of three are built, in two packages each, and some in an earlier
+    version."""
     sources, packages = [], []
     for at in range(count):
         number = at * 7919 % count
         source, version = f"source-{number:06d}", f"1.{number % 31}-{number % 4 + 1}"
-        depends = f"debhelper-compat (= 13), lib-{number % 500} (>= 1.2) [linux-any],\n libz-dev | zlib1g-dev, doxygen <!nodoc>"
-        sources.append(f"Package: {source}\nVersion: {version}\nMaintainer: Some Body <body@example.org>\nBuild-Depends: {depends}\n")
-        sources[-1] += f"Architecture: any\nStandards-Version: 4.6.2\nPriority: {PRIORITIES[number % 5]}\nSection: {SECTIONS[number // 5 % 6]}\n\n"
+        depends = (
+            f"debhelper-compat (= 13), lib-{number % 500} (>= 1.2) [linux-any],\n"
+            " libz-dev | zlib1g-dev, doxygen <!nodoc>"
+        )
+        sources.append(
+            f"Package: {source}\nVersion: {version}\nMaintainer: Some Body <body@example.org>\n"
+            f"Build-Depends: {depends}\n"
+        )
+        priority, section = PRIORITIES[number % 5], SECTIONS[number // 5 % 6]
+        sources[-1] += f"Architecture: any\nStandards-Version: 4.6.2\nPriority: {priority}\nSection: {section}\n\n"
         if number % 3:
             built = version if number % 7 else "0.1-1"
             packages.append(f"Package: {source}\nVersion: {built}\nArchitecture: ARCH\nDescription: a package\n\n")
-            packages.append(f"Package: lib{source}\nSource: {source} ({built})\nVersion: {built}+b{number % 5 + 1}\nArchitecture: ARCH\n\n")
-        packages.append(f"Package: {source}-doc\nSource: {source}\nVersion: {version}\nArchitecture: all\nDescription: its documents\n\n")
+            packages.append(
+                f"Package: lib{source}\nSource: {source} ({built})\nVersion: {built}+b{number % 5 + 1}\n"
+                "Architecture: ARCH\n\n"
+            )
+        packages.append(
+            f"Package: {source}-doc\nSource: {source}\nVersion: {version}\nArchitecture: all\n"
+            "Description: its documents\n\n"
+        )
     made = Lists(str(folder / "Sources"), {arch: str(folder / f"Packages-{arch}") for arch in ARCHS})
     Path(made.sources).write_text("".join(sources))
     for arch, path in made.packages.items():

@@ -1,9 +1,11 @@
-/* The statements of an office over SQLite's C library, for bench/keep_records to compare with: `statements FILE` answers the lines add-arch,
- * add-builder, enter, next, built, uploaded and merge by the SQL texts of wb_sql, each command in one transaction, and a line `check` by the
- * integrity_check and foreign_key_check of SQLite. The pragmas are what `wb` asks of the kit's `sqlite`: a log that is synced at each commit,
- * foreign keys, pages of 4,096 bytes, 2,000 of them cached, and nobody else at the file. The log is copied at 1,000 pages, SQLite's own number:
- * with the 8,000 of `wb` it is slower here.
- * It knows only what the measured lines need: versions that strcmp orders, relations that need no reduction, names that were checked. */
+/* The statements of an office over SQLite's C library, for bench/keep_records to compare with: `statements FILE`
+ * answers the lines add-arch, add-builder, enter, next, built, uploaded and merge by the SQL texts of wb_sql, each
+ * command in one transaction, and a line `check` by the integrity_check and foreign_key_check of SQLite. The pragmas
+ * are what `wb` asks of the kit's `sqlite`: a log that is synced at each commit, foreign keys, pages of 4,096 bytes,
+ * 2,000 of them cached, and nobody else at the file. The log is copied at 1,000 pages, SQLite's own number: with the
+ * 8,000 of `wb` it is slower here.
+ * It knows only what the measured lines need: versions that strcmp orders, relations that need no reduction, names that
+ * were checked. */
 #include <sqlite3.h>
 #include <stdio.h>
 #include <stdlib.h>
@@ -11,30 +13,42 @@
 
 enum { NEEDS_BUILD = 0, BUILDING = 1, BUILT = 2, UPLOADED = 3, INSTALLED = 4 };
 
-#define COLUMNS "arch, source, state, version, priority, section, earlier, number, holder, take, waits, depends, note, message, build_priority, rank"
+#define COLUMNS                                                                                                        \
+    "arch, source, state, version, priority, section, earlier, number, holder, take, waits, depends, note, message, "  \
+    "build_priority, rank"
 
-#define SETS "SET state = ?3, version = ?4, priority = ?5, section = ?6, earlier = ?7, number = ?8, holder = ?9, take = ?10, waits = ?11," \
+#define SETS                                                                                                           \
+    "SET state = ?3, version = ?4, priority = ?5, section = ?6, earlier = ?7, number = ?8, holder = ?9, take = ?10, "  \
+    "waits = ?11,"                                                                                                     \
     " depends = ?12, note = ?13, message = ?14, build_priority = ?15, rank = ?16"
 
-static const char *const PRAGMAS =
-    "PRAGMA page_size=4096; PRAGMA journal_mode=WAL; PRAGMA synchronous=FULL; PRAGMA wal_autocheckpoint=1000; PRAGMA foreign_keys=ON;"
-    "PRAGMA cache_size=2000; PRAGMA locking_mode=EXCLUSIVE;";
+static const char *const PRAGMAS = "PRAGMA page_size=4096; PRAGMA journal_mode=WAL; PRAGMA synchronous=FULL; PRAGMA "
+                                   "wal_autocheckpoint=1000; PRAGMA foreign_keys=ON;"
+                                   "PRAGMA cache_size=2000; PRAGMA locking_mode=EXCLUSIVE;";
 
 static const char *const SCHEMA =
     "BEGIN;"
-    "CREATE TABLE office(id INTEGER PRIMARY KEY CHECK(id = 1), format INTEGER NOT NULL, handed INTEGER NOT NULL, accepted INTEGER NOT NULL) STRICT;"
+    "CREATE TABLE office(id INTEGER PRIMARY KEY CHECK(id = 1), format INTEGER NOT NULL, handed INTEGER NOT NULL, "
+    "accepted INTEGER NOT NULL) STRICT;"
     "CREATE TABLE arch(name TEXT NOT NULL PRIMARY KEY, os TEXT NOT NULL, cpu TEXT NOT NULL) STRICT;"
-    "CREATE TABLE builder(name TEXT NOT NULL, arch TEXT NOT NULL REFERENCES arch(name), PRIMARY KEY(name, arch)) STRICT;"
-    "CREATE TABLE source_record(arch TEXT NOT NULL REFERENCES arch(name), source TEXT NOT NULL, state INTEGER NOT NULL, version TEXT NOT NULL,"
-    " priority TEXT NOT NULL, section TEXT NOT NULL, earlier INTEGER NOT NULL, number INTEGER NOT NULL, holder TEXT, take INTEGER,"
-    " waits TEXT NOT NULL, depends TEXT, note TEXT NOT NULL, message TEXT NOT NULL, build_priority INTEGER NOT NULL, rank INTEGER NOT NULL,"
+    "CREATE TABLE builder(name TEXT NOT NULL, arch TEXT NOT NULL REFERENCES arch(name), PRIMARY KEY(name, arch)) "
+    "STRICT;"
+    "CREATE TABLE source_record(arch TEXT NOT NULL REFERENCES arch(name), source TEXT NOT NULL, state INTEGER NOT "
+    "NULL, version TEXT NOT NULL,"
+    " priority TEXT NOT NULL, section TEXT NOT NULL, earlier INTEGER NOT NULL, number INTEGER NOT NULL, holder TEXT, "
+    "take INTEGER,"
+    " waits TEXT NOT NULL, depends TEXT, note TEXT NOT NULL, message TEXT NOT NULL, build_priority INTEGER NOT NULL, "
+    "rank INTEGER NOT NULL,"
     " PRIMARY KEY(arch, source)) STRICT;"
     "CREATE INDEX record_order ON source_record(arch, state, rank, source);"
     "CREATE INDEX record_take ON source_record(take);"
     "INSERT INTO office VALUES (1, 2, 0, 0);"
     "COMMIT;";
 
-enum statement { BEGIN, COMMIT, COUNTS, SET_COUNTS, ARCHS, ADD_ARCH, PAIR, PAIRS, ALL_PAIRS, ADD_BUILDER, RECORD, HEAD, BY_TAKE, OF_ARCH, ALL, PUT, REPLACE, KINDS };
+enum statement {
+    BEGIN, COMMIT, COUNTS, SET_COUNTS, ARCHS, ADD_ARCH, PAIR, PAIRS, ALL_PAIRS, ADD_BUILDER, RECORD, HEAD, BY_TAKE,
+    OF_ARCH, ALL, PUT, REPLACE, KINDS
+};
 
 static const char *const TEXTS[KINDS] = {
     [BEGIN] = "BEGIN",
@@ -52,7 +66,8 @@ static const char *const TEXTS[KINDS] = {
     [BY_TAKE] = "SELECT " COLUMNS " FROM source_record WHERE take = ?1",
     [OF_ARCH] = "SELECT " COLUMNS " FROM source_record WHERE arch = ?1 ORDER BY source",
     [ALL] = "SELECT " COLUMNS " FROM source_record ORDER BY arch, source",
-    [PUT] = "INSERT INTO source_record(" COLUMNS ") VALUES (?1, ?2, ?3, ?4, ?5, ?6, ?7, ?8, ?9, ?10, ?11, ?12, ?13, ?14, ?15, ?16)"
+    [PUT] = "INSERT INTO source_record(" COLUMNS
+            ") VALUES (?1, ?2, ?3, ?4, ?5, ?6, ?7, ?8, ?9, ?10, ?11, ?12, ?13, ?14, ?15, ?16)"
             " ON CONFLICT(arch, source) DO UPDATE " SETS,
     [REPLACE] = "UPDATE source_record " SETS " WHERE arch = ?1 AND source = ?2",
 };
@@ -77,7 +92,9 @@ static char *copy(const char *text) {
     return made;
 }
 
-static int same(const char *one, const char *other) { return one == other || (one && other && strcmp(one, other) == 0); }
+static int same(const char *one, const char *other) {
+    return one == other || (one && other && strcmp(one, other) == 0);
+}
 
 static void run(const char *texts) {
     if (sqlite3_exec(db, texts, NULL, NULL, NULL) != SQLITE_OK) fail(texts);
@@ -85,12 +102,16 @@ static void run(const char *texts) {
 
 /* The statement, prepared once, at its start. */
 static sqlite3_stmt *ready(enum statement which) {
-    if (!prepared[which] && sqlite3_prepare_v3(db, TEXTS[which], -1, SQLITE_PREPARE_PERSISTENT, &prepared[which], NULL) != SQLITE_OK) fail(TEXTS[which]);
+    if (!prepared[which] &&
+        sqlite3_prepare_v3(db, TEXTS[which], -1, SQLITE_PREPARE_PERSISTENT, &prepared[which], NULL) != SQLITE_OK)
+        fail(TEXTS[which]);
     sqlite3_reset(prepared[which]);
     return prepared[which];
 }
 
-static void text(sqlite3_stmt *at, int place, const char *value) { sqlite3_bind_text(at, place, value, -1, SQLITE_STATIC); }
+static void text(sqlite3_stmt *at, int place, const char *value) {
+    sqlite3_bind_text(at, place, value, -1, SQLITE_STATIC);
+}
 
 static int has_row(sqlite3_stmt *at) {
     int status = sqlite3_step(at);
@@ -127,16 +148,28 @@ static int next_record(sqlite3_stmt *at, struct record *made) {
         return 0;
     }
     *made = (struct record){
-        .arch = column(at, 0), .source = column(at, 1), .state = sqlite3_column_int64(at, 2), .version = column(at, 3),
-        .priority = column(at, 4), .section = column(at, 5), .earlier = sqlite3_column_int64(at, 6), .number = sqlite3_column_int64(at, 7),
-        .holder = column(at, 8), .take = sqlite3_column_int64(at, 9), .waits = column(at, 10), .depends = column(at, 11),
-        .note = column(at, 12), .message = column(at, 13), .build_priority = sqlite3_column_int64(at, 14),
+        .arch = column(at, 0),
+        .source = column(at, 1),
+        .state = sqlite3_column_int64(at, 2),
+        .version = column(at, 3),
+        .priority = column(at, 4),
+        .section = column(at, 5),
+        .earlier = sqlite3_column_int64(at, 6),
+        .number = sqlite3_column_int64(at, 7),
+        .holder = column(at, 8),
+        .take = sqlite3_column_int64(at, 9),
+        .waits = column(at, 10),
+        .depends = column(at, 11),
+        .note = column(at, 12),
+        .message = column(at, 13),
+        .build_priority = sqlite3_column_int64(at, 14),
     };
     return 1;
 }
 
 static void drop(struct record *old) {
-    char *texts[] = {old->arch, old->source, old->version, old->priority, old->section, old->holder, old->waits, old->depends, old->note, old->message};
+    char *texts[] = {old->arch, old->source, old->version, old->priority, old->section, old->holder, old->waits,
+        old->depends, old->note, old->message};
     for (size_t k = 0; k < sizeof texts / sizeof *texts; k++) free(texts[k]);
 }
 
@@ -148,7 +181,8 @@ static sqlite3_int64 place_of(const char *word, const char *const *words, sqlite
 
 static sqlite3_int64 rank_of(const struct record *of) {
     static const char *const priorities[] = {"required", "important", "standard", "optional", "extra"};
-    static const char *const sections[] = {"libs", "base", "devel", "kernel", "shells", "perl", "python", "admin", "utils", "text", "net"};
+    static const char *const sections[] = {
+        "libs", "base", "devel", "kernel", "shells", "perl", "python", "admin", "utils", "text", "net"};
     sqlite3_int64 priority = place_of(of->priority, priorities, 5), section = place_of(of->section, sections, 11);
     return (1000 - of->build_priority) * 348 + (!of->earlier * 6 + priority) * 29 + section;
 }
@@ -223,7 +257,15 @@ static int enter(char **words) {
         return 0;
     }
     begin();
-    put(PUT, &(struct record){.arch = words[1], .source = words[2], .version = words[3], .priority = words[4], .section = words[5], .waits = "", .note = "", .message = ""});
+    put(PUT,
+        &(struct record){.arch = words[1],
+            .source = words[2],
+            .version = words[3],
+            .priority = words[4],
+            .section = words[5],
+            .waits = "",
+            .note = "",
+            .message = ""});
     commit();
     return 1;
 }
@@ -264,7 +306,9 @@ static int report(char **words, int state) {
 struct listed { char *source, *version, *priority, *section, *depends, *built; };
 struct records { struct record *at; size_t count; };
 
-static int by_source(const void *one, const void *other) { return strcmp(((const struct listed *)one)->source, ((const struct listed *)other)->source); }
+static int by_source(const void *one, const void *other) {
+    return strcmp(((const struct listed *)one)->source, ((const struct listed *)other)->source);
+}
 
 /* Where a line is this field, its value. */
 static char *value_of(char *line, const char *field) {
@@ -355,8 +399,9 @@ static void merge_one(const struct record *old, const struct listed *by) {
         new.state = NEEDS_BUILD;
     }
     new.priority = by->priority, new.section = by->section, new.depends = by->depends;
-    if (new.state == old->state && same(new.version, old->version) && new.earlier == old->earlier && new.take == old->take
-        && same(new.priority, old->priority) && same(new.section, old->section) && same(new.depends, old->depends))
+    if (new.state == old->state && same(new.version, old->version) &&
+        new.earlier == old->earlier &&new.take == old->take &&same(new.priority, old->priority) &&
+        same(new.section, old->section) && same(new.depends, old->depends))
         return;
     put(PUT, &new);
 }
@@ -367,7 +412,8 @@ static void merge_part(const char *arch, const char *packages, struct listed *li
     for (size_t k = 0; k < count; k++) free(listed[k].built), listed[k].built = NULL;
     read_packages(packages, listed, count);
     for (size_t k = 0; k < old.count; k++) {
-        struct listed *by = bsearch(&(struct listed){.source = old.at[k].source}, listed, count, sizeof *listed, by_source);
+        struct listed *by =
+            bsearch(&(struct listed){.source = old.at[k].source}, listed, count, sizeof *listed, by_source);
         if (by) merge_one(&old.at[k], by);
     }
     drop_all(old);
@@ -386,7 +432,8 @@ static int merge(char **words) {
     }
     commit();
     for (size_t k = 0; k < count; k++) {
-        char *texts[] = {listed[k].source, listed[k].version, listed[k].priority, listed[k].section, listed[k].depends, listed[k].built};
+        char *texts[] = {listed[k].source, listed[k].version, listed[k].priority, listed[k].section, listed[k].depends,
+            listed[k].built};
         for (size_t n = 0; n < sizeof texts / sizeof *texts; n++) free(texts[n]);
     }
     free(listed);
@@ -397,7 +444,8 @@ static int merge(char **words) {
 
 static int check(void) {
     sqlite3_stmt *at;
-    if (sqlite3_prepare_v2(db, "PRAGMA integrity_check", -1, &at, NULL) != SQLITE_OK || !has_row(at)) fail("integrity_check");
+    if (sqlite3_prepare_v2(db, "PRAGMA integrity_check", -1, &at, NULL) != SQLITE_OK || !has_row(at))
+        fail("integrity_check");
     int good = strcmp((const char *)sqlite3_column_text(at, 0), "ok") == 0;
     sqlite3_finalize(at);
     if (sqlite3_prepare_v2(db, "PRAGMA foreign_key_check", -1, &at, NULL) != SQLITE_OK) fail("foreign_key_check");

@@ -1,0 +1,205 @@
+"""Starts, stops, backs up, restores and merges an office: the one command of its operator.
+
+Each step is said on standard error before it is taken; answers of the office, the lines of `status` and the names of
+backups come on standard output. But for `prune`, nothing is ever removed but copies that were found bad and what this
+command made for a trial.
+"""
+from __future__ import annotations
+
+import argparse
+import contextlib
+import fcntl
+import os
+import re
+import signal
+import sys
+from collections.abc import Iterator, Sequence
+from pathlib import Path
+from typing import Any, NoReturn
+
+from wb_tools import outlive_readers
+from wb_tools.office.merges import read_merges, read_reports
+from wb_tools.office.prune import prune
+from wb_tools.office.settings import FAILED, Owner, Refusal, Settings, read_settings, tell
+from wb_tools.office.steps import Office
+from wb_tools.suites import default_settings, settings_of_suite
+
+EPILOG = """\
+examples:
+  office status
+  office --dry-run merge Sources-0412 amd64=Packages-amd64-0412
+  office merge --most-removed 100 Sources-0412 amd64=Packages-amd64-0412
+  office --suite experimental status
+  office merge Sources-amd64 amd64=Packages-amd64 Sources-armhf armhf=Packages-armhf
+  echo 'add-builder b1 amd64' | office run
+  office restore --force /var/lib/wb/backups/2026-04-12T031500Z
+
+settings, lines of KEY=VALUE as systemd's EnvironmentFile has them, a value with a blank in quotes:
+  PROGRAM          the program wb                       /usr/bin/wb
+  STORE            the file of the records              (required)
+  BACKUPS          the folder of the backups            (required)
+  PORT             the port of 127.0.0.1                8080
+  REQUESTS         connections until it starts anew     1000000
+  JOURNAL          a file to which a line for each accepted command is appended
+  SERVICE          systemd or pidfile                   systemd
+  UNIT             the unit, with systemd               wb.service
+  PID_FILE, LOG    its process and messages, with pidfile
+  OWNER            the user who owns STORE and BACKUPS, if root calls
+  WAIT             seconds for a start and a stop       60
+  KEEP_BACKUPS, KEEP_DAYS
+                   which backups prune keeps: the newest so many, and those that are younger than so many days
+  MERGE, PAGE      the words that timers give to merge-archive and to wb-status
+  SNAPSHOT_MAKE, SNAPSHOT_DROP
+                   commands, without a shell, that make and drop a snapshot of the file system that has STORE, of
+                   both its files at one moment
+  SNAPSHOT_FOLDER  where the snapshot shows the folder of STORE
+
+exit statuses:
+  0  done; of status: the service runs and answers
+  1  a step failed or was refused, or the office refused a line; the message says which
+  2  the words or the settings are wrong; nothing was done
+  3  the service does not run; of merge, run and backup: it ran before and could not be started again
+"""
+
+
+# ---- words
+
+
+def whole_number(text: str) -> int:
+    if not re.fullmatch("[0-9]{1,9}", text):
+        raise argparse.ArgumentTypeError(f"{text} has to be a whole number")
+    return int(text)
+
+
+def suite_settings(suite: str) -> Path:
+    try:
+        return settings_of_suite(suite, default_settings().parent)
+    except ValueError as why:
+        raise argparse.ArgumentTypeError(str(why)) from None
+
+
+def add_merge(below: Any) -> None:
+    """The command `merge` and its options."""
+    merge = below.add_parser("merge", help="look at the lists, stop, back up, merge, start")
+    merge.add_argument(
+        "--most-removed", metavar="N", type=whole_number,
+        help="merge into a copy first; go on if no part removes more than N",
+    )
+    merge.add_argument(
+        "--report", metavar="ARCH=FILE", action="append", default=[],
+        help="a report that is given after the merges, before the service starts",
+    )
+    merge.add_argument(
+        "--no-look", dest="looks", action="store_false", help="do not read the lists before the service is stopped"
+    )
+    merge.add_argument(
+        "lists", metavar="LIST", nargs="+",
+        help="SOURCESFILE ARCH=PACKAGESFILE.., which may stand several times",
+    )
+
+
+def parser() -> argparse.ArgumentParser:
+    whole = argparse.ArgumentParser(
+        prog="office", description=(__doc__ or "").split("\n\n")[0], epilog=EPILOG,
+        formatter_class=argparse.RawDescriptionHelpFormatter,
+    )
+    which = whole.add_mutually_exclusive_group()
+    which.add_argument(
+        "--settings", metavar="FILE", type=Path, default=default_settings(),
+        help="the settings (OFFICE_SETTINGS, or /etc/wb/office.conf)",
+    )
+    which.add_argument(
+        "--suite", dest="settings", metavar="SUITE", type=suite_settings,
+        help="the office of this suite, whose settings are SUITE.conf beside those, as /etc/wb/SUITE.conf",
+    )
+    whole.add_argument("--dry-run", action="store_true", help="say each step, and take none")
+    below = whole.add_subparsers(dest="command", metavar="COMMAND", required=True)
+    below.add_parser("create", help="make an empty office where none is")
+    below.add_parser("start", help="start the service, and wait until it answers")
+    below.add_parser("stop", help="stop the service by SIGTERM, and wait for its end")
+    below.add_parser("status", help="show whether it runs and answers, its files and its last backup")
+    backup = below.add_parser("backup", help="copy both files, once the service does not run, and open the copy")
+    how = backup.add_mutually_exclusive_group()
+    how.add_argument("--stop", action="store_true", help="stop the service, and start it again afterwards")
+    how.add_argument("--snapshot", action="store_true", help="copy from a snapshot of the file system, without a stop")
+    restore = below.add_parser("restore", help="put a backup in, and keep what is there")
+    restore.add_argument("backup", metavar="BACKUP", help="the folder of a backup")
+    restore.add_argument(
+        "--force", action="store_true", help="also where there is an office, which is kept under another name"
+    )
+    below.add_parser("prune", help="remove the backups that neither KEEP_BACKUPS nor KEEP_DAYS keeps")
+    add_merge(below)
+    below.add_parser("run", help="stop, give the office the lines of standard input, start")
+    below.add_parser("ready", help="end with 0 if there is an office that may be served; what the unit asks first")
+    below.add_parser("keep", help="serve in the foreground, again and again, for those without systemd")
+    return whole
+
+
+def act(office: Office, settings: Settings, words: argparse.Namespace) -> int:
+    match words.command:
+        case "status":
+            return office.show()
+        case "ready":
+            office.require_ready()
+        case "keep":
+            return office.keep()
+        case "create":
+            office.create()
+        case "start":
+            office.start()
+        case "stop":
+            office.stop()
+        case "backup":
+            office.show_name(office.backup(words.snapshot, words.stop))
+        case "restore":
+            office.restore(Path(os.path.abspath(words.backup)), words.force)
+        case "prune":
+            prune(settings, office.step)
+        case "merge":
+            merges = read_merges(words.lists)
+            office.merge(merges, read_reports(words.report, merges), words.most_removed, words.looks)
+        case "run":
+            office.run(sys.stdin.buffer.read())
+    return office.status
+
+
+@contextlib.contextmanager
+def alone(settings: Settings, command: str) -> Iterator[None]:
+    """Refuses if another call of this command changes the office; those that only look do not count."""
+    if command in ("status", "ready", "keep"):
+        yield
+        return
+    with open(settings.file, "rb") as handle:
+        try:
+            fcntl.flock(handle, fcntl.LOCK_EX | fcntl.LOCK_NB)
+        except OSError:
+            raise Refusal("another call of this command is under way") from None
+        yield
+
+
+def end_by_signal(number: int, _frame: object) -> NoReturn:
+    raise SystemExit(128 + number)
+
+
+def main(arguments: Sequence[str]) -> int:
+    outlive_readers()
+    words = parser().parse_args(arguments)
+    os.umask(0o027)
+    signal.signal(signal.SIGTERM, end_by_signal)
+    signal.signal(signal.SIGHUP, end_by_signal)
+    office = None
+    try:
+        settings = read_settings(Path(os.path.abspath(words.settings)))
+        owner = Owner(settings.owner)
+        with alone(settings, words.command):
+            owner.become()
+            office = Office(settings, owner, words.dry_run)
+            return act(office, settings, words)
+    except Refusal as refusal:
+        tell(str(refusal))
+        return office.status if office and office.status else refusal.status
+    except OSError as error:
+        tell(str(error))
+        return office.status if office and office.status else FAILED
+    except KeyboardInterrupt:
+        return 130

@@ -1,0 +1,137 @@
+"""What the settings of tools/bin/wanna-build say, and what its modules share: statuses, faults and the log."""
+from __future__ import annotations
+
+import contextlib
+import os
+import pwd
+import re
+import time
+from dataclasses import dataclass, field
+from pathlib import Path
+
+from wb_tools.office.settings import unquoted
+from wb_tools.suites import port_of_suite
+
+DONE, REFUSED, WRONG_WORDS, NOT_SENT = 0, 1, 2, 3
+FILE = Path("/etc/wb/wanna-build.conf")
+NUMBERS = {"TRY": 86400, "ANSWER": 3600}
+PATHS = {"STATE", "LOG"}
+FORMS = {
+    "ARCH": re.compile(r"[a-z0-9][a-z0-9-]{0,39}"),
+    "ALL": re.compile(r"[a-z0-9][a-z0-9-]{0,39}"),
+    "RETAKE": re.compile("yes|no"),
+    "SUITES": re.compile(r"[A-Za-z0-9][\w.+-]*=[0-9]{1,5}( +[A-Za-z0-9][\w.+-]*=[0-9]{1,5})*"),
+}
+
+
+class Fault(Exception):
+    """Why a call is not carried out, and with which status it ends."""
+
+    def __init__(self, reason: str, status: int = REFUSED) -> None:
+        super().__init__(reason)
+        self.status = status
+
+
+def home() -> Path:
+    """The folder of the user who calls; buildd empties the environment, HOME too."""
+    return Path(pwd.getpwuid(os.geteuid()).pw_dir)
+
+
+def caller() -> str:
+    return pwd.getpwuid(os.geteuid()).pw_name
+
+
+@dataclass
+class Settings:
+    """What the settings file says. Times are in seconds."""
+
+    suites: dict[str, int] = field(default_factory=dict)  # the port of the office of each suite
+    arch: str = ""
+    all_arch: str = "indep"  # the architecture that stands for builds of `all`
+    state: Path = Path()
+    log: Path = Path()
+    try_for: int = 300
+    answer: int = 40  # more than an office takes at most for one connection
+    retake: bool = True
+    folder: Path = FILE.parent  # where the settings of the offices of other suites may lie
+
+    def port_of(self, suite: str) -> int | None:
+        return self.suites.get(suite) or port_of_suite(suite, self.folder)
+
+    def arch_of(self, arch: str) -> str:
+        """The office's name of an architecture that buildd names."""
+        return self.all_arch if arch == "all" else arch or self.arch
+
+    def note(self, text: str) -> None:
+        """Appends to the log what no answer to buildd can say; a log that cannot be written stops nothing."""
+        line = f"{time.strftime('%Y-%m-%dT%H:%M:%SZ', time.gmtime())} {text}\n"
+        with contextlib.suppress(OSError), open(self.log, "a", encoding="utf-8", errors="replace") as log:
+            log.write(line)
+
+
+def checked_value(key: str, text: str) -> None:
+    """A ValueError says what the value of a setting has to be."""
+    if key in NUMBERS:
+        if not re.fullmatch("[0-9]{1,9}", text) or not 1 <= int(text) <= NUMBERS[key]:
+            raise ValueError(f"has to be a number from 1 to {NUMBERS[key]}")
+    elif key in PATHS:
+        if not text.startswith(("/", "~/")):
+            raise ValueError("has to be a path that begins with / or ~/")
+    elif key not in FORMS:
+        raise ValueError("is no setting")
+    elif not FORMS[key].fullmatch(text):
+        raise ValueError(
+            "has to be yes or no"
+            if key == "RETAKE"
+            else 'has to be as in SUITES="sid=8080 experimental=8081", ARCH=amd64'
+        )
+
+
+def read_settings(file: Path) -> Settings:
+    found: dict[str, str] = {}
+    try:
+        lines = file.read_text(encoding="utf-8").splitlines()
+    except (OSError, UnicodeDecodeError) as error:
+        raise Fault(f"the settings cannot be read: {file}: {error}", WRONG_WORDS) from None
+    for number, line in enumerate(map(str.strip, lines), 1):
+        if not line or line[0] in "#;":
+            continue
+        key, equals, text = line.partition("=")
+        value = unquoted(text.strip())
+        try:
+            if not equals or value is None:
+                raise ValueError(
+                    "has to be KEY=VALUE, with one pair of quotes around the whole value, or none, and no backslash"
+                )
+            if key in found:
+                raise ValueError("is set twice")
+            checked_value(key, value)
+            found[key] = value
+        except ValueError as error:
+            raise Fault(f"{file}:{number}: {key} {error}", WRONG_WORDS) from None
+    return settings_of(file, found)
+
+
+def settings_of(file: Path, found: dict[str, str]) -> Settings:
+    suites = {suite: int(port) for suite, _, port in (word.partition("=") for word in found.get("SUITES", "").split())}
+    if not suites:
+        raise Fault(f'{file}: SUITES is missing, as in SUITES="sid=8080"', WRONG_WORDS)
+    for suite, port in suites.items():
+        if not 1 <= port <= 65535:
+            raise Fault(f"{file}: the port of {suite} in SUITES has to be from 1 to 65535", WRONG_WORDS)
+
+    def path(key: str, name: str) -> Path:
+        text = found.get(key, f"~/{name}")
+        return home() / text[2:] if text.startswith("~/") else Path(text)
+
+    return Settings(
+        suites=suites,
+        folder=file.parent,
+        arch=found.get("ARCH", ""),
+        all_arch=found.get("ALL", "indep"),
+        state=path("STATE", "wanna-build.state"),
+        log=path("LOG", "wanna-build.log"),
+        try_for=int(found.get("TRY", "300")),
+        answer=int(found.get("ANSWER", "40")),
+        retake=found.get("RETAKE", "yes") == "yes",
+    )
