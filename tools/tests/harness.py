@@ -24,7 +24,7 @@ sys.path += [str(LIB), str(DEV)]
 
 WB = os.path.abspath(os.environ.get("WB", ROOT / "wb"))
 SEED = int(os.environ.get("SEED", "0"))
-WAIT = 20  # seconds after which a run counts as one that does not end
+WAIT = 60  # seconds after which a run counts as one that does not end
 BUILDING = threading.Lock()
 PRINTS = """\
 Prints 'ok NAME', 'failed NAME: why' or 'left out NAME: why' for each test, with more of it on the lines under it, and

@@ -19,7 +19,7 @@ from pathlib import Path
 ROOT = Path(__file__).resolve().parents[2]
 LIBRARY = Path(__file__).resolve().parent / "refuse_memory.c"
 STORES = ROOT / "tools" / "tests" / "stores"
-WAIT = 20  # seconds after which a program counts as one that does not answer
+WAIT = 60  # seconds after which a program counts as one that does not answer
 TABLES = {
     "office": "id",
     "arch": "name",

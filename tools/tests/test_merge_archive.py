@@ -67,7 +67,7 @@ class Porter(Trial):
             wb = folder / "wb"
             wb.write_text(WB)
             wb.chmod(0o755)
-        super().__init__(folder, wb, WAIT=5)
+        super().__init__(folder, wb, WAIT=20)
         self.base, self.lists = folder, folder / "lists"
         self.lists.mkdir()
         self.put()

@@ -663,6 +663,8 @@ class Client(threading.Thread):
 
     def tell(self, path, body):
         status, said = self.server.post(path, **body)
+        if not said:
+            raise http.client.IncompleteRead(said)  # the head was cut before it gave the length of the body
         answer = json.loads(said)
         if status == 200:
             self.told.append((answer["accepted"], answer.get("take"), path))
