@@ -365,7 +365,7 @@ def starts_again_after_a_merge_that_failed(folder):
 
 
 def says_that_it_could_not_start_again(folder):
-    with Trial(folder, WAIT=3) as office:
+    with Trial(folder, WAIT=10) as office:
         office.fill()
         office.do("start")
         office.fault("serve")
