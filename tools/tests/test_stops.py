@@ -546,8 +546,13 @@ def stop_life(*lives):
     expected = Expected([], [line for life in lives for line in life])
     before, lines = len(lives[0]), len(lives[1])
     seen, stops, refused, unclosed = set(), 0, 0, 0
+
+    def is_whole(calls):
+        found = trials.lives(lives, calls)
+        return found.rows == expected.states[-1] and found.left == ["0"]
+
     with Trials() as trials:
-        most = first_calls(lambda calls: trials.lives(lives, calls).rows != expected.states[-1])
+        most = first_calls(lambda calls: not is_whole(calls))
         for calls in singles((0, 0), most):
             found, where = trials.lives(lives, calls), f"stopped at {calls}"
             done = found.accepted()
