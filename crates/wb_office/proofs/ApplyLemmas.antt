@@ -252,8 +252,8 @@ pub settled_at : {machine : Machine} {was_closed : Bool} {known : Known} {s : St
 settled_at stands opened = stands.back.settled (stands.is_open opened)
 
 -- the texts of a command are refused, and nothing is done
-pub texts_refused : {S : Type 0} (g : Ghosts S) (command : Command) (was_closed : Bool) (known : Known) (held : Held S) (opened : was_closed ≡ false) (refusal : Refusal)
-    → ChecksTexts {X = Unit {0}} command (Err refusal) → (r : Result Reply Refusal) → r ≡ Err refusal → Applies g command was_closed known held was_closed known held r
+pub texts_refused : {S X : Type 0} (g : Ghosts S) (command : Command) (was_closed : Bool) (known : Known) (held : Held S) (opened : was_closed ≡ false) (refusal : Refusal)
+    → ChecksTexts {X = X} command (Err refusal) → (r : Result Reply Refusal) → r ≡ Err refusal → Applies g command was_closed known held was_closed known held r
 texts_refused {S} g command was_closed known held opened refusal checks r given = subst (Applies g command was_closed known held was_closed known held) (sym given) (record {
   was_clean = λ clean. clean;
   limit = refl;

@@ -1,5 +1,5 @@
 -- How a report is carried out over tables: its lines are read, the records that they name are looked up, and what differs is kept.
-use Rattle.std.proofs.Common.{◌≡◌, ◌≢◌, ◌∙◌, refl, sym, ap, subst, inl, inr, ℕ, ◌+◌, true, false, cond, not, ◌||◌, List, [], ◌∷◌, ◌++◌, map as each, length, drop, get_or, ◌<◌, Option, Some, None, option_map, option_and_then, Result, Ok, Err, IfOk, IfErr, IsErrAnd, IsTrue, bytes_eq, append_assoc}
+use Rattle.std.proofs.Common.{◌≡◌, ◌∙◌, refl, sym, ap, subst, inl, inr, ℕ, ◌+◌, false, cond, not, ◌||◌, List, [], ◌∷◌, ◌++◌, map as each, length, drop, get_or, ◌<◌, Option, Some, None, option_map, option_and_then, Result, Ok, Err, IfOk, bytes_eq, append_assoc}
 use Rattle.std.proofs.lemmas.List.{map-append}
 use Rattle.std.specs.List.{cons_option, list_any}
 use Rattle.std.specs.FinMap as map
@@ -13,34 +13,29 @@ use Rattle.wb_states.specs.declared.counts.Counts.{Counts}
 use Rattle.wb_states.specs.declared.keyed.KeyedRecord.{KeyedRecord}
 use Rattle.wb_states.specs.declared.record.Record.{Record}
 use Rattle.wb_states.specs.declared.refusal.Refusal.{Refusal}
-use Rattle.wb_states.specs.declared.refusal.Refusal.TheVariants.{Memory}
 use Rattle.wb_states.specs.declared.reply.Reply.TheVariants.{Reported}
 use Rattle.wb_states.specs.declared.store_fault.StoreFault.{StoreFault}
 use Rattle.wb_states.specs.Lookups.{entry_of}
 use Rattle.wb_states.specs.Machine.{Machine, IsConsistent, is_unknown_arch}
 use Rattle.wb_states.specs.Queue.{Entry}
 use Rattle.wb_states.specs.Refusals.{IsOfMachine, is_of_store}
-use Rattle.wb_states.specs.Names.{is_arch_name}
-use Rattle.wb_merge.specs.declared.report.ReportFault.{ReportFault}
 use Rattle.wb_merge.specs.declared.report.ReportLine.{ReportLine}
-use Rattle.wb_merge.specs.declared.report.ReportFault.TheVariants as fault
 use Rattle.wb_merge.specs.Merged.{Records}
-use Rattle.wb_merge.specs.Report.{Lines, refusal_of_report, report_of, report_takes_memory}
+use Rattle.wb_merge.specs.Report.{Lines}
 use Rattle.wb_merge.specs.Reported.{changed_by_line, number_reported, records_reported, row_reported, rows_over, rows_reported, with_rows}
 use Rattle.wb_merge.proofs.MergeLemmas.{listed-any}
 use Rattle.wb_merge.proofs.RecordLemmas.{same-record-is}
 use Rattle.wb_merge.proofs.ReportedLemmas.{reported-rows}
-use Rattle.wb_step.specs.Checks.{MayWantMemory, first_refusal}
+use Rattle.wb_step.specs.Checks.{first_refusal}
 use Rattle.wb_step.specs.Named.{listed}
 use Rattle.wb_step.specs.Step.{Outcome, lines_said, outcome, step}
 use Rattle.wb_step.specs.Utf8.{HasUtf8Texts}
-use Rattle.wb_step.proofs.ReportingLemmas.{first_refusal-Report, report-bad, report-wants, want-Report}
 use Rattle.wb_store.specs.Settled.{IsSettled}
 use Rattle.wb_office.specs.declared.answer.Answered.{Answered}
 use Rattle.wb_office.specs.declared.answer.Failure.{Failure}
 use Rattle.wb_office.specs.declared.answer.Failure.TheVariants.{Refused, Unread, Uncommitted}
 use Rattle.wb_office.specs.declared.carry.CarryError.{CarryError}
-use Rattle.wb_office.specs.Answers.{Answers, AreOf, IsLeft, IsUncommitted, KeepsReport}
+use Rattle.wb_office.specs.Answers.{Answers, IsLeft, IsUncommitted, KeepsReport}
 use Rattle.wb_office.specs.Carried.{LeavesAs}
 use Rattle.wb_office.specs.Rows.{CarriesRows, IsAccepted, IsReportIn, row_from, rows_written}
 use Rattle.wb_store.proofs.StaysLemmas.{was_clean}
@@ -107,14 +102,14 @@ module _ {S : Type 0} {g : Ghosts S} {rows : List Entry} {counts : Counts} {old 
 
 module _ {S : Type 0} (g : Ghosts S) (counts : Counts) (report : Report) (old : Held S) where
   -- a report that is refused changes nothing
-  pub report_refused : (Given : Machine → Type 0) (refusal : Refusal) → (IsOfMachine refusal → (machine : Machine) → Given machine → first_refusal machine (of.Report report) ≡ Some refusal)
-      → (refusal ≡ Memory → MayWantMemory (of.Report report)) → is_of_store refusal ≡ false → Answers g Given (of.Report report) old old (Err (Refused refusal))
+  pub report_refused : (Given : Machine → Type 0) (refusal : Refusal) → ((machine : Machine) → Given machine → first_refusal machine (of.Report report) ≡ Some refusal)
+      → IsOfMachine refusal → is_of_store refusal ≡ false → Answers g Given (of.Report report) old old (Err (Refused refusal))
   unfolding step
-  report_refused Given refusal refused wants kind = record {
+  report_refused Given refusal refused other kind = record {
     was_clean = λ clean. clean;
     limit = refl;
     ok = λ clean machine consistent settled given. tt;
-    err = λ clean machine consistent settled given. (λ other. step_refused machine (refused other machine given), (wants, settled));
+    err = λ clean machine consistent settled given. (λ _. step_refused machine (refused machine given), (λ none. absurd (other none), settled));
     others = λ clean machine consistent settled given. tt;
     of_step = kind;
     utf8 = tt;
@@ -214,26 +209,6 @@ pub row_is : (arch : List ℕ) (lines : Lines) (source : List ℕ) (found : Opti
 unfolding row_reported
 row_is arch lines source found (Ok row) is = λ machine sound there. is ∙ ap (row_from arch lines source) there
 row_is arch lines source found (Err fault) is = tt
-
--- ---- a report that cannot be read
-
-pub lines_refused : {X : Type 0} (counts : Counts) (archs : List (List ℕ × OsCpu)) (report : Report) (r : Result X Refusal) (wrong : ReportFault)
-    → IsErrAnd r (λ refusal. refusal ≡ refusal_of_report wrong) → is_arch_name report.arch ≡ true → (wrong ≢ fault.Memory → report_of report.text ≡ Err wrong)
-    → IfErr r (λ refusal. IsOfMachine refusal → (machine : Machine) → AreOf counts archs machine → first_refusal machine (of.Report report) ≡ Some refusal)
-lines_refused counts archs report (Ok x) wrong is good refused = tt
-lines_refused counts archs report (Err refusal) wrong is good refused = λ other machine own.
-    first_refusal-Report machine report false (Some refusal) _ _ (ap not good) (report-bad report.text wrong refusal refused is other) refl refl
-
-pub lines_want : {X : Type 0} (report : Report) (r : Result X Refusal) (wrong : ReportFault) → IsErrAnd r (λ refusal. refusal ≡ refusal_of_report wrong)
-    → is_arch_name report.arch ≡ true → (wrong ≡ fault.Memory → IsTrue (report_takes_memory report.text))
-    → IfErr r (λ refusal. refusal ≡ Memory → MayWantMemory (of.Report report))
-lines_want report (Ok x) wrong is good wants = tt
-lines_want report (Err refusal) wrong is good wants = λ none. want-Report report.arch report.text good (report-wants report.text wrong refusal wants is none)
-
-pub lines_kind : {X : Type 0} (r : Result X Refusal) (wrong : ReportFault) → IsErrAnd r (λ refusal. refusal ≡ refusal_of_report wrong) → IfErr r (λ refusal. is_of_store refusal ≡ false)
-lines_kind (Ok x) wrong is = tt
-lines_kind (Err refusal) fault.Memory is = ap is_of_store is
-lines_kind (Err refusal) (fault.BadReport line) is = ap is_of_store is
 
 -- what holds of a wider choice of offices
 pub answers_given : {S : Type 0} {g : Ghosts S} {First Given : Machine → Type 0} {command : Command} {old new : Held S} {r : Result Answered Failure}

@@ -3,6 +3,8 @@
 ghost use Rattle.std.specs.Prelude.{◌≡◌, None};
 ghost use Rattle.wb_step.specs.Arguments.{arguments_of};
 ghost use Rattle.wb_step.specs.Checks.{text_refusal};
+ghost use Rattle.wb_step.specs.TextChecks.{report_lines};
+ghost use Rattle.wb_step.specs.Utf8.{HasUtf8Texts};
 ghost use Rattle.wb_office.specs.Answers.{AreOf, Answers, IsNamed, KeepsStep, Responds, is_again};
 
 use crate::carry::{CarryError, carry};
@@ -13,6 +15,7 @@ use crate::reporting::answer_report;
 use deb_text::Text;
 use sqlite::Alter;
 use std::alloc::Global;
+use wb_merge::ReportLines;
 use wb_states::{Command, Counts, OsCpu, Refusal, Reply, StoreFault, Table};
 use wb_step::{OfficePart, carry_out};
 use wb_store::{Store, unfit};
@@ -37,21 +40,25 @@ pub(crate) struct Answered {
     pub(crate) counts: Counts,
 }
 
-/// Carries out a command whose texts are not refused by what is known of the tables, and takes over what is known then.
+/// Carries out a command whose texts are not refused, and of which these lines were read if it is a report, by what is
+/// known of the tables, and takes over what is known then.
 pub(crate) fn answer<S: Alter + Drop>(
     alloc: Global,
     store: &mut Store<S>,
     known: &mut Known,
     command: &Command,
+    lines: Option<ReportLines>,
 ) -> Result<Reply, Failure>
     requires texts { text_refusal command.now ≡ None }
+    requires lines { lines ≡ report_lines command.now }
+    requires utf8 { HasUtf8Texts command.now }
     ensures responds { Responds S.Store command.now known.old store.old known.new store.new result }
 {
     let archs = match find_archs(alloc, store, known) {
         Ok(archs) => archs,
         Err(fault) => return Err(Failure::Unread(fault)),
     };
-    match answer_of(alloc, store, known.counts, archs, command) {
+    match answer_of(alloc, store, known.counts, archs, command, lines) {
         Ok(Answered { reply, counts }) => {
             learn(known, command, counts);
             Ok(reply)
@@ -60,20 +67,26 @@ pub(crate) fn answer<S: Alter + Drop>(
     }
 }
 
-/// Carries out a command whose texts are not refused in an office that has these counts and architectures.
+/// Carries out a command whose texts are not refused, and of which these lines were read if it is a report, in an office
+/// that has these counts and architectures.
 fn answer_of<S: Alter + Drop>(
     alloc: Global,
     store: &mut Store<S>,
     counts: Counts,
     archs: Vec<(Text, OsCpu)>,
     command: &Command,
+    lines: Option<ReportLines>,
 ) -> Result<Answered, Failure>
     requires texts { text_refusal command.now ≡ None }
+    requires lines { lines ≡ report_lines command.now }
+    requires utf8 { HasUtf8Texts command.now }
     ensures answers { Answers S.Store (AreOf counts archs.items) command.now store.old store.new result }
 {
     match command {
         Command::Merge(merge) => answer_merge(alloc, store, counts, &archs, merge),
-        Command::Report(report) => answer_report(alloc, store, counts, &archs, report),
+        Command::Report(report) => {
+            answer_report(alloc, store, counts, &archs, report, &lines.unwrap())
+        }
         _ => answer_one(alloc, store, counts, archs, command),
     }
 }

@@ -162,8 +162,8 @@ impl<S: Alter + Drop> Office<S> {
         if self.is_closed {
             return Err(Refusal::Closed);
         }
-        check_texts(self.alloc, command)?;
-        match answer(self.alloc, &mut self.store, &mut self.known, command) {
+        let lines = check_texts(self.alloc, command)?;
+        match answer(self.alloc, &mut self.store, &mut self.known, command, lines) {
             Ok(reply) => Ok(reply),
             Err(failure) => {
                 let (refusal, is_closed) = end(&mut self.store, failure);

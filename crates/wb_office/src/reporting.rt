@@ -1,18 +1,17 @@
 //! What the office answers to a report over its tables: the records that its lines name are read, and those that differ
-//! are written in one transaction.
+//! are written in one transaction. The lines were read when the texts of the command were tested.
 ghost use Rattle.std.specs.Prelude.{◌≡◌, ◌++◌, bytes_eq, nat_le, false, None, Some, map as each, option_and_then, option_map, IfOk, IfErr, OnOk};
 ghost use Rattle.std.specs.List.{list_any};
 ghost use Rattle.std.specs.Str.{IsUtf8};
 ghost use Rattle.wb_states.specs.declared.command.Command.TheVariants as of;
 ghost use Rattle.wb_states.specs.declared.command.Report.{Report as AnyReport};
-ghost use Rattle.wb_states.specs.declared.refusal.Refusal.TheVariants.{Memory as NoMemory};
 ghost use Rattle.wb_states.specs.declared.store_fault.StoreFault.TheVariants.{Memory};
 ghost use Rattle.wb_states.specs.Limits.{count_limit};
 ghost use Rattle.wb_states.specs.Lookups.{entry_of};
 ghost use Rattle.wb_states.specs.Machine.{Machine};
 ghost use Rattle.wb_states.specs.Refusals.{IsOfMachine, is_of_store};
 ghost use Rattle.wb_merge.specs.Reported.{changed_by_line, row_reported, rows_reported};
-ghost use Rattle.wb_step.specs.Checks.{MayWantMemory, first_refusal};
+ghost use Rattle.wb_step.specs.Checks.{first_refusal, text_refusal};
 ghost use Rattle.wb_step.specs.Named.{listed};
 ghost use Rattle.wb_step.specs.Step.{lines_said};
 ghost use Rattle.wb_states.specs.declared.store_fault.Table.TheVariants.{Office};
@@ -31,7 +30,7 @@ use std::alloc::{AllocError, Global};
 use wb_merge::{ReportLine, ReportLines, changed_by_report};
 use wb_states::command::Report;
 use wb_states::{
-    COUNT_LIMIT, Counts, KeyedRecord, OsCpu, Record, Refusal, Reply, StoreFault, Table, is_arch,
+    COUNT_LIMIT, Counts, KeyedRecord, OsCpu, Record, Refusal, Reply, StoreFault, Table,
 };
 use wb_store::{Store, Writing, unfit};
 
@@ -49,34 +48,23 @@ fn is_spent(counts: Counts) -> bool
     COUNT_LIMIT <= counts.accepted
 }
 
-/// The lines of a report that an office with these counts and architectures does not refuse, or the refusal.
-fn read_report(
-    alloc: Global,
-    counts: Counts,
-    archs: &[(Text, OsCpu)],
-    report: &Report,
-) -> Result<ReportLines, Refusal>
-    ensures value { IfOk result (λ lines. lines ≡ lines_said report.now.text) }
+/// Tests a report whose texts are not refused against the counts and the architectures of an office.
+fn check_report(counts: Counts, archs: &[(Text, OsCpu)], report: &Report) -> Result<(), Refusal>
+    requires texts { text_refusal (of.Report report.now) ≡ None }
     ensures good { OnOk result ((machine : Machine) → AreOf counts archs.now machine
         → first_refusal machine (of.Report report.now) ≡ None) }
     ensures room { OnOk result (nat_le count_limit counts.accepted ≡ false) }
-    ensures utf8 { OnOk result (IsUtf8 report.now.text) }
-    ensures memory { IfErr result (λ refusal. refusal ≡ NoMemory → MayWantMemory (of.Report report.now)) }
-    ensures refused { IfErr result (λ refusal. IsOfMachine refusal → (machine : Machine)
-        → AreOf counts archs.now machine → first_refusal machine (of.Report report.now) ≡ Some refusal) }
-    ensures kind { IfErr result (λ refusal. is_of_store refusal ≡ false) }
+    ensures refused { IfErr result (λ refusal. (machine : Machine) → AreOf counts archs.now machine
+        → first_refusal machine (of.Report report.now) ≡ Some refusal) }
+    ensures kind { IfErr result (λ refusal. IsOfMachine refusal × (is_of_store refusal ≡ false)) }
 {
-    if !is_arch(report.arch.as_str()) {
-        return Err(Refusal::BadName);
-    }
-    let lines = ReportLines::read(alloc, report.text.as_str())?;
     if !has_arch(archs, &report.arch) {
         return Err(Refusal::UnknownArch);
     }
     if is_spent(counts) {
         return Err(Refusal::Spent);
     }
-    Ok(lines)
+    Ok(())
 }
 
 /// The record of the source package after the line of the report that names it, with its key, if a field of it differs.
@@ -264,19 +252,23 @@ fn answer_lines<S: Alter + Drop>(
     }
 }
 
-/// Carries out a report: of the records only those that its lines name are read, and of these only those that differ
-/// afterwards are written.
+/// Carries out a report with these lines, whose texts are not refused: of the records only those that the lines name are
+/// read, and of these only those that differ afterwards are written.
 pub(crate) fn answer_report<S: Alter + Drop>(
     alloc: Global,
     store: &mut Store<S>,
     counts: Counts,
     archs: &[(Text, OsCpu)],
     report: &Report,
+    lines: &ReportLines,
 ) -> Result<Answered, Failure>
+    requires texts { text_refusal (of.Report report.now) ≡ None }
+    requires lines { lines.now ≡ lines_said report.now.text }
+    requires utf8 { IsUtf8 report.now.text }
     ensures answers { Answers S.Store (AreOf counts archs.now) (of.Report report.now) store.old store.new result }
 {
-    match read_report(alloc, counts, archs, report) {
-        Ok(lines) => answer_lines(alloc, store, counts, report, &lines),
+    match check_report(counts, archs, report) {
+        Ok(()) => answer_lines(alloc, store, counts, report, lines),
         Err(refusal) => Err(Failure::Refused(refusal)),
     }
 }

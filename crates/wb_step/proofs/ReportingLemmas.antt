@@ -134,7 +134,7 @@ report-good text lines is = at (first_bad_line [] (lines_in text)) is where
   at (Some line) e = cc
 
 -- the refusal of a report is that of its fault
-pub report-bad : (text : List ℕ) (wrong : ReportFault) (refusal : Refusal) → (wrong ≢ fault.Memory → report_of text ≡ Err wrong) → refusal ≡ refusal_of_report wrong
+report-bad : (text : List ℕ) (wrong : ReportFault) (refusal : Refusal) → (wrong ≢ fault.Memory → report_of text ≡ Err wrong) → refusal ≡ refusal_of_report wrong
     → IsOfMachine refusal → report_refusal text ≡ Some refusal
 unfolding report_of
 report-bad text fault.Memory refusal refused is other = absurd (other is)
@@ -144,13 +144,13 @@ report-bad text (fault.BadReport number) refusal refused is other = at (first_ba
   at (Some line) e = cc
 
 -- memory runs out for a report only if one of its lines can be read
-pub report-wants : (text : List ℕ) (wrong : ReportFault) (refusal : Refusal) → (wrong ≡ fault.Memory → IsTrue (report_takes_memory text)) → refusal ≡ refusal_of_report wrong
+report-wants : (text : List ℕ) (wrong : ReportFault) (refusal : Refusal) → (wrong ≡ fault.Memory → IsTrue (report_takes_memory text)) → refusal ≡ refusal_of_report wrong
     → refusal ≡ Memory → report_takes_memory text ≡ true
 report-wants text fault.Memory refusal wants is none = wants refl
 report-wants text (fault.BadReport number) refusal wants is none = absurd (cc (sym none ∙ is))
 
 -- what is known of a report for which memory is wanted
-pub want-Report : (arch text : List ℕ) → is_arch_name arch ≡ true → report_takes_memory text ≡ true → MayWantMemory (of.Report (record { arch = arch; text = text }))
+want-Report : (arch text : List ℕ) → is_arch_name arch ≡ true → report_takes_memory text ≡ true → MayWantMemory (of.Report (record { arch = arch; text = text }))
 want-Report arch text good takes = record {
   names = ap not good;
   version = refl;
@@ -186,6 +186,13 @@ text-Report arch text is_bad refused bad why = at (not (is_arch_name arch)) (rep
   at true one = refl
   at false (Some refusal) = refl
   at false None = refl
+
+-- a report whose texts are not refused
+pub good-Report : (fields : Report) → text_refusal (of.Report fields) ≡ None → (not (is_arch_name fields.arch) ≡ false) × (report_refusal fields.text ≡ None)
+good-Report fields good = at (not (is_arch_name fields.arch)) (report_refusal fields.text) (sym (text-Report fields.arch fields.text _ _ refl refl) ∙ good) where
+  at : (is_bad : Bool) (refused : Option Refusal) → option_or (when is_bad BadName) refused ≡ None → (is_bad ≡ false) × (refused ≡ None)
+  at true refused e = cc
+  at false refused e = (refl, e)
 
 pub told-Report : {X : Type 0} (fields : Report) (r : Result X Refusal) → is_arch_name fields.arch ≡ true → OnOk r (report_refusal fields.text ≡ None)
     → IfErr r (λ refusal. IsOfMachine refusal → report_refusal fields.text ≡ Some refusal) → IfErr r (λ refusal. refusal ≡ Memory → report_takes_memory fields.text ≡ true)

@@ -1,6 +1,7 @@
 //! The check of a command's texts, for which nothing of the office is looked up.
-ghost use Rattle.std.specs.Prelude.{◌≡◌, ◌≢◌, false, nat_lt, length, [], ◌∷◌, Option, None, Some, IfErr, OnOk};
+ghost use Rattle.std.specs.Prelude.{◌≡◌, ◌≢◌, false, nat_lt, length, [], ◌∷◌, Option, None, Some, IfErr, IfOk, OnOk};
 ghost use Rattle.std.specs.Option.{option_or};
+ghost use Rattle.std.specs.Str.{IsUtf8};
 ghost use Rattle.deb_text.specs.Options.{first_some};
 ghost use Rattle.wb_states.specs.declared.command.Command.TheVariants as of;
 ghost use Rattle.wb_states.specs.declared.refusal.Refusal.{Refusal as AnyRefusal};
@@ -8,7 +9,9 @@ ghost use Rattle.wb_states.specs.declared.refusal.Refusal.TheVariants.{BadName, 
 ghost use Rattle.wb_states.specs.Limits.{relations_limit};
 ghost use Rattle.wb_states.specs.Refusals.{IsOfMachine};
 ghost use Rattle.wb_step.specs.Checks.{is_bad_number, is_bad_priority, key_refusal, relations_fault, relations_refusal, version_refusal, when};
-ghost use Rattle.wb_step.specs.TextChecks.{ChecksTexts, Tells};
+ghost use Rattle.wb_step.specs.Step.{lines_said};
+ghost use Rattle.wb_step.specs.TextChecks.{ChecksTexts, Tells, report_lines};
+ghost use Rattle.wb_step.specs.Utf8.{HasUtf8Texts};
 
 use crate::forms::{
     has_bad_arch, has_bad_builder, has_bad_entry, has_bad_key, has_bad_part, has_bad_request,
@@ -22,12 +25,29 @@ use std::alloc::Global;
 use wb_merge::ReportLines;
 use wb_states::{Command, Refusal, command, is_arch};
 
-/// Tests the texts of a command: names, version, relations, number, and the lengths of free texts. Nothing of the office
-/// plays a part. The refusal is the first that is true of the texts, in the order of [`Refusal`]; `Memory` comes if there
-/// is no memory to read the version or the relations, and for no command that another of its texts refuses (this
-/// project's own).
-pub fn check_texts(alloc: Global, command: &Command) -> Result<(), Refusal>
+/// Tests the texts of a command: names, version, relations, number, the lengths of free texts, and the lines of a report,
+/// which it hands on, so that a report is read once. Nothing of the office plays a part. The refusal is the first that is
+/// true of the texts, in the order of [`Refusal`]; `Memory` comes if there is no memory to read the version, the relations
+/// or the report, and for no command that another of its texts refuses (this project's own).
+pub fn check_texts(alloc: Global, command: &Command) -> Result<Option<ReportLines>, Refusal>
     ensures checks { ChecksTexts command.now result }
+    ensures lines { IfOk result (λ lines. lines ≡ report_lines command.now) }
+    ensures utf8 { OnOk result (HasUtf8Texts command.now) }
+{
+    match command {
+        Command::Report(report) => Ok(Some(read_report(alloc, report)?)),
+        _ => {
+            check_other(alloc, command)?;
+            Ok(None)
+        }
+    }
+}
+
+/// Tests the texts of a command that is no report.
+fn check_other(alloc: Global, command: &Command) -> Result<(), Refusal>
+    requires other { report_lines command.now ≡ None }
+    ensures checks { ChecksTexts command.now result }
+    ensures utf8 { OnOk result (HasUtf8Texts command.now) }
 {
     match command {
         Command::AddArch(adds) => {
@@ -75,7 +95,7 @@ pub fn check_texts(alloc: Global, command: &Command) -> Result<(), Refusal>
             let named = unless(Ok(()), has_bad_part(parts), Refusal::BadName);
             unless(named, repeats_arch(parts), Refusal::RepeatedArch)
         }
-        Command::Report(report) => check_report(alloc, report),
+        Command::Report(_) => unreachable!(),
     }
 }
 
@@ -157,13 +177,14 @@ fn check_dep_wait(alloc: Global, waits: &command::DepWait) -> Result<(), Refusal
     }
 }
 
-/// Tests the architecture and the lines of a report.
-fn check_report(alloc: Global, report: &command::Report) -> Result<(), Refusal>
+/// Tests the architecture of a report, and reads its lines.
+fn read_report(alloc: Global, report: &command::Report) -> Result<ReportLines, Refusal>
     ensures checks { ChecksTexts (of.Report report.now) result }
+    ensures value { IfOk result (λ lines. lines ≡ lines_said report.now.text) }
+    ensures utf8 { OnOk result (IsUtf8 report.now.text) }
 {
     if !is_arch(report.arch.as_str()) {
         return Err(Refusal::BadName);
     }
-    let _ = ReportLines::read(alloc, report.text.as_str())?;
-    Ok(())
+    Ok(ReportLines::read(alloc, report.text.as_str())?)
 }
