@@ -4,7 +4,7 @@ use Rattle.std.specs.Prelude.{IfErr, IfOk, OnOk}
 use Rattle.std.specs.Result.{result_map_both}
 use Rattle.wb_archive.specs.declared.fault.MergeFault.{MergeFault}
 use Rattle.wb_archive.specs.declared.fault.MergeFault.TheVariants.{Memory, Tables}
-use Rattle.wb_archive.specs.Faults.{StopsAs}
+use Rattle.wb_archive.specs.Faults.{Advances, StopsAs}
 
 pub stops-on : {T F : Type 0} (Follows : T → T → Type 0) (Fails : T → T → F → Type 0)
     → ((first second third : T) → Follows first second → Follows second third → Follows first third)
@@ -12,6 +12,21 @@ pub stops-on : {T F : Type 0} (Follows : T → T → Type 0) (Fails : T → T �
     → (first second third : T) (fault : MergeFault F) → Follows first second → StopsAs Follows Fails second third fault → StopsAs Follows Fails first third fault
 stops-on Follows Fails follows_on fails_on first second third Memory before stops = follows_on first second third before stops
 stops-on Follows Fails follows_on fails_on first second third (Tables fault) before stops = fails_on first second third fault before stops
+
+-- calls after calls that succeeded
+pub advances-on : {T X F : Type 0} (Follows : T → T → Type 0) (Fails : T → T → F → Type 0)
+    → ((first second third : T) → Follows first second → Follows second third → Follows first third)
+    → ((first second third : T) (fault : F) → Follows first second → Fails second third fault → Fails first third fault)
+    → (first second third : T) (result : Result X (MergeFault F)) → Follows first second
+    → Advances Follows (StopsAs Follows Fails) second third result → Advances Follows (StopsAs Follows Fails) first third result
+advances-on Follows Fails follows_on fails_on first second third (Ok x) before after = record {
+  follows = follows_on first second third before after.follows;
+  stops = tt;
+}
+advances-on Follows Fails follows_on fails_on first second third (Err fault) before after = record {
+  follows = tt;
+  stops = stops-on Follows Fails follows_on fails_on first second third fault before after.stops;
+}
 
 -- ---- answers
 

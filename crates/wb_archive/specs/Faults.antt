@@ -1,5 +1,5 @@
 -- Why a merge stops, and why a list is refused.
-use Rattle.std.specs.Prelude.{◌≡◌, ⊤}
+use Rattle.std.specs.Prelude.{◌≡◌, ⊤, Result, OnOk, IfErr}
 use Rattle.deb_control.specs.declared.fault.ControlFault.{ControlFault}
 use Rattle.wb_states.specs.declared.refusal.Refusal.{Refusal}
 use Rattle.wb_states.specs.declared.refusal.Refusal.TheVariants.{BadListing}
@@ -34,3 +34,8 @@ IfBad (Bad bad) P = P bad
 abbrev pub StopsAs : {T F : Type 0} → (T → T → Type 0) → (T → T → F → Type 0) → T → T → MergeFault F → Type 0
 StopsAs Follows Fails old new Memory = Follows old new
 StopsAs Follows Fails old new (Tables fault) = Fails old new fault
+
+-- calls on tables led from the first to the second: all succeeded, or they stopped there as is said of the fault
+pub record Advances {T X F : Type 0} (Follows : T → T → Type 0) (Stops : T → T → F → Type 0) (old new : T) (result : Result X F) : Type 0 where
+  pub follows : OnOk result (Follows old new)
+  pub stops : IfErr result (Stops old new)

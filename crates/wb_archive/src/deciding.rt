@@ -1,5 +1,5 @@
 //! The records of an architecture, brought in line with what the tables have of the archive's lists.
-ghost use Rattle.std.specs.Prelude.{◌≡◌, ◌++◌, ℕ, not, filter, List, Some, None, IfOk, IfErr, IfSome, OnOk};
+ghost use Rattle.std.specs.Prelude.{◌≡◌, ◌++◌, ℕ, not, filter, List, Some, None, IfOk, IfSome, OnOk};
 ghost use Rattle.std.specs.FinMap as finite;
 ghost use Rattle.std.specs.BTreeSet.{contains};
 ghost use Rattle.std.specs.Option.{option_map};
@@ -9,7 +9,7 @@ ghost use Rattle.deb_text.specs.Text.{text_cmp};
 ghost use Rattle.wb_merge.specs.Merged.{change_of, merge_counts, merged};
 ghost use Rattle.wb_merge.specs.Steps.{record_at};
 ghost use Rattle.wb_archive.specs.Decides.{AreNamesToDecide, listing_at, record_decided, set_record};
-ghost use Rattle.wb_archive.specs.Faults.{StopsAs};
+ghost use Rattle.wb_archive.specs.Faults.{Advances, StopsAs};
 ghost use Rattle.wb_archive.specs.Tables.{HasFittingTake, Tables, with_records};
 
 use crate::MergeTables;
@@ -33,8 +33,7 @@ fn record_of<T: MergeTables>(
         → IfOk result (λ found. found ≡ record_at at.now.machine.records (arch.now, name.now)) }
     ensures given { IfOk result (λ found. IfSome found HasFittingTake) }
     ensures same { (at : Tables) → T.is_clean tables.new → T.holds tables.old at → OnOk result (T.holds tables.new at) }
-    ensures follows { OnOk result (T.follows tables.old tables.new) }
-    ensures stops { IfErr result (StopsAs T.follows T.fails tables.old tables.new) }
+    ensures calls { Advances T.follows (StopsAs T.follows T.fails) tables.old tables.new result }
 {
     asked(tables.record(arch, name))
 }
@@ -74,8 +73,7 @@ fn names_to_decide<T: MergeTables>(
     ensures value { (at : Tables) → T.is_clean tables.new → T.holds tables.old at
         → IfOk result (λ names. AreNamesToDecide at.now arch.now names.items) }
     ensures same { (at : Tables) → T.is_clean tables.new → T.holds tables.old at → OnOk result (T.holds tables.new at) }
-    ensures follows { OnOk result (T.follows tables.old tables.new) }
-    ensures stops { IfErr result (StopsAs T.follows T.fails tables.old tables.new) }
+    ensures calls { Advances T.follows (StopsAs T.follows T.fails) tables.old tables.new result }
 {
     let mut names = asked(tables.recorded_names(arch))?;
     let listed = asked(tables.listed_names())?;
@@ -98,8 +96,7 @@ fn found<T: MergeTables>(
         → IfOk result (λ new. new ≡ record_decided arch.now at.now name.now) }
     ensures given { IfOk result (λ new. IfSome new HasFittingTake) }
     ensures same { (at : Tables) → T.is_clean tables.new → T.holds tables.old at → OnOk result (T.holds tables.new at) }
-    ensures follows { OnOk result (T.follows tables.old tables.new) }
-    ensures stops { IfErr result (StopsAs T.follows T.fails tables.old tables.new) }
+    ensures calls { Advances T.follows (StopsAs T.follows T.fails) tables.old tables.new result }
 {
     let is_met = is_met(alloc, tables, old)?;
     let sources = asked(tables.sources_named(name))?;
@@ -123,8 +120,7 @@ fn put_new<T: MergeTables>(
         → change ≡ change_of (record_at at.now.machine.records (arch.now, name.now)) (Some new.now)
         → OnOk result (T.holds tables.new
         (with_records (set_record at.now.machine.records (arch.now, name.now) (Some new.now)) at)) }
-    ensures follows { OnOk result (T.follows tables.old tables.new) }
-    ensures stops { IfErr result (StopsAs T.follows T.fails tables.old tables.new) }
+    ensures calls { Advances T.follows (StopsAs T.follows T.fails) tables.old tables.new result }
 {
     if let Change::Kept = change {
         return Ok(());
@@ -143,8 +139,7 @@ fn take_out<T: MergeTables>(
         → change ≡ change_of (record_at at.now.machine.records (arch.now, name.now)) None
         → OnOk result (T.holds tables.new
         (with_records (set_record at.now.machine.records (arch.now, name.now) None) at)) }
-    ensures follows { OnOk result (T.follows tables.old tables.new) }
-    ensures stops { IfErr result (StopsAs T.follows T.fails tables.old tables.new) }
+    ensures calls { Advances T.follows (StopsAs T.follows T.fails) tables.old tables.new result }
 {
     if let Change::Absent = change {
         return Ok(());
@@ -166,8 +161,7 @@ fn keep_record<T: MergeTables>(
         → option_map deref old.entry ≡ record_at at.now.machine.records (arch.now, name.now)
         → OnOk result (T.holds tables.new (with_records (set_record at.now.machine.records (arch.now, name.now) new) at)) }
     ensures change { IfOk result (λ change. change ≡ change_of (option_map deref old.entry) new) }
-    ensures follows { OnOk result (T.follows tables.old tables.new) }
-    ensures stops { IfErr result (StopsAs T.follows T.fails tables.old tables.new) }
+    ensures calls { Advances T.follows (StopsAs T.follows T.fails) tables.old tables.new result }
 {
     let change = Change::of(old, new.as_ref());
     match new {
@@ -190,8 +184,7 @@ fn decide_one<T: MergeTables>(
     ensures change { (at : Tables) → T.is_clean tables.new → T.holds tables.old at
         → IfOk result (λ change. change ≡ change_of (record_at at.now.machine.records (arch.now.name, name.now))
         (record_decided arch.now at.now name.now)) }
-    ensures follows { OnOk result (T.follows tables.old tables.new) }
-    ensures stops { IfErr result (StopsAs T.follows T.fails tables.old tables.new) }
+    ensures calls { Advances T.follows (StopsAs T.follows T.fails) tables.old tables.new result }
 {
     let old = record_of(tables, &arch.name, name)?;
     let new = found(alloc, tables, arch, name, old.as_ref())?;
@@ -211,8 +204,7 @@ pub fn decide<T: MergeTables>(
         (with_records (merged at.now.machine.records arch.now.name (listing_at arch.now at.now)) at)) }
     ensures counts { (at : Tables) → T.is_clean tables.new → T.holds tables.old at
         → IfOk result (λ counts. counts ≡ merge_counts at.now.machine.records arch.now.name (listing_at arch.now at.now)) }
-    ensures follows { OnOk result (T.follows tables.old tables.new) }
-    ensures stops { IfErr result (StopsAs T.follows T.fails tables.old tables.new) }
+    ensures calls { Advances T.follows (StopsAs T.follows T.fails) tables.old tables.new result }
 {
     let names = names_to_decide(alloc, tables, &arch.name)?;
     let mut counts = MergeCounts {

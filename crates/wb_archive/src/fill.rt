@@ -1,11 +1,11 @@
 //! A list, read into a table paragraph by paragraph.
-ghost use Rattle.std.specs.Prelude.{◌≡◌, ◌++◌, ◌∷◌, ◌<◌, ◌^◌, [], false, IfOk, IfErr, IfSome, OnOk};
+ghost use Rattle.std.specs.Prelude.{◌≡◌, ◌++◌, ◌∷◌, ◌<◌, ◌^◌, [], false, IfOk, IfSome, OnOk};
 ghost use Rattle.std.specs.BTreeSet.{contains};
 ghost use Rattle.std.specs.Option.{option_map_or};
 ghost use Rattle.deb_text.specs.Text.{text_cmp};
 ghost use Rattle.wb_states.specs.declared.refusal.ListKind.TheVariants.{Packages, Sources};
 ghost use Rattle.wb_merge.specs.Scratch.{binary_row_at, source_row_at};
-ghost use Rattle.wb_archive.specs.Faults.{StopsAs};
+ghost use Rattle.wb_archive.specs.Faults.{Advances, StopsAs};
 ghost use Rattle.wb_archive.specs.Fills.{IsFilled, binaries_wanted, binary_kept, is_binary_kept, is_binary_wanted, is_repeat, is_same_build, is_source_wanted, last_kept, sources_wanted};
 ghost use Rattle.wb_archive.specs.Reads.{IsRefused, MayStandWhere, packages_at, sources_at};
 ghost use Rattle.wb_archive.specs.Tables.{Tables, IsAfterBinaries, IsAfterSources, with_binaries, with_sources};
@@ -47,8 +47,7 @@ fn keep_source<T: MergeTables>(
     ensures value { (at : Tables) → T.is_clean tables.new → T.holds tables.old at → IsAfterSources row.now.seq at.now.sources
         → OnOk result (T.holds tables.new
         (with_sources (at.now.sources ++ sources_wanted archs.now (row.now ∷ [])) at)) }
-    ensures follows { OnOk result (T.follows tables.old tables.new) }
-    ensures stops { IfErr result (StopsAs T.follows T.fails tables.old tables.new) }
+    ensures calls { Advances T.follows (StopsAs T.follows T.fails) tables.old tables.new result }
 {
     if is_source_wanted(row, archs) {
         asked(tables.add_source(row))?;
@@ -97,8 +96,7 @@ fn keep_binary<T: MergeTables>(
         → OnOk result (T.holds tables.new
         (with_binaries (at.now.binaries ++ binary_kept (contains text_cmp waited.now) last.old row) at)) }
     ensures last { OnOk result (last.new ≡ last_kept (contains text_cmp waited.now) last.old row) }
-    ensures follows { OnOk result (T.follows tables.old tables.new) }
-    ensures stops { IfErr result (StopsAs T.follows T.fails tables.old tables.new) }
+    ensures calls { Advances T.follows (StopsAs T.follows T.fails) tables.old tables.new result }
 {
     let Some(row) = row else {
         return Ok(());
@@ -126,8 +124,7 @@ pub fn fill_sources<T: MergeTables, R: ReadParagraphs>(
         → IfOk result (λ bad. MayStandWhere R.may_stand_at list.old (λ place. IsFilled (sources_at place)
         (sources_wanted archs.now) (λ rows. T.holds tables.new (with_sources rows at))
         (IsRefused (R.breaks list.old) Sources source_row_at place) bad)) }
-    ensures follows { OnOk result (T.follows tables.old tables.new) }
-    ensures stops { IfErr result (StopsAs T.follows T.fails tables.old tables.new) }
+    ensures calls { Advances T.follows (StopsAs T.follows T.fails) tables.old tables.new result }
 {
     for passed in 0..LAST_PLACE {
         match next_source(alloc, list, passed) {
@@ -158,8 +155,7 @@ pub fn fill_binaries<T: MergeTables, R: ReadParagraphs>(
         → IfOk result (λ bad. MayStandWhere R.may_stand_at list.old (λ place. IsFilled (packages_at arch.now place)
         (binaries_wanted (contains text_cmp waited.now)) (λ rows. T.holds tables.new (with_binaries rows at))
         (IsRefused (R.breaks list.old) Packages (binary_row_at arch.now) place) bad)) }
-    ensures follows { OnOk result (T.follows tables.old tables.new) }
-    ensures stops { IfErr result (StopsAs T.follows T.fails tables.old tables.new) }
+    ensures calls { Advances T.follows (StopsAs T.follows T.fails) tables.old tables.new result }
 {
     let mut last = None;
     for passed in 0..LAST_PLACE {

@@ -1,10 +1,10 @@
 //! The merge of an archive's lists: Sources is read once, and then each part in its order.
-ghost use Rattle.std.specs.Prelude.{◌≡◌, ◌++◌, ℕ, List, [], ◌∷◌, None, Some, IfOk, IfErr, OnOk};
+ghost use Rattle.std.specs.Prelude.{◌≡◌, ◌++◌, ℕ, List, [], ◌∷◌, None, Some, IfOk, OnOk};
 ghost use Rattle.std.specs.List.{AllByRecursion};
 ghost use Rattle.deb_relations.specs.declared.arch.ArchWords.{ArchWords};
 ghost use Rattle.wb_states.specs.Machine.{Machine};
 ghost use Rattle.wb_states.specs.declared.reply.PartEnd.TheVariants.{Refused};
-ghost use Rattle.wb_archive.specs.Faults.{StopsAs, refusal_of};
+ghost use Rattle.wb_archive.specs.Faults.{Advances, StopsAs, refusal_of};
 ghost use Rattle.wb_archive.specs.Merges.{BreaksFor, IsGiven, IsMergeOfLists, IsMergeOfParts, IsPartMerged, IsPartUnread, IsUnread, arch_of, archs_of};
 ghost use Rattle.wb_archive.specs.Parts.{IsPartEnd};
 ghost use Rattle.wb_archive.specs.Sources.{AreAllKnown, AreKnown, HasSources};
@@ -89,8 +89,7 @@ fn merge_known<T: MergeTables, R: ReadParagraphs>(
         (record { arch = name.now; words = words.now; packages = packages.old }) at.now.machine.records) }
     ensures unread { words.now ≡ None → packages.new ≡ packages.old }
     ensures kind { IfOk result IsPartEnd }
-    ensures follows { OnOk result (T.follows tables.old tables.new) }
-    ensures stops { IfErr result (StopsAs T.follows T.fails tables.old tables.new) }
+    ensures calls { Advances T.follows (StopsAs T.follows T.fails) tables.old tables.new result }
 {
     let Some(words) = words else {
         return Ok(PartEnd::Refused {
@@ -120,8 +119,7 @@ fn reply_to<T: MergeTables, R: ReadParagraphs>(
         (IsGiven (λ _. R.breaks part.packages) machine text bad) (λ records. T.holds tables.new (with_records records at))
         part at.now.machine.records reply.end) }
     ensures kind { IfOk result (λ reply. IsPartEnd reply.end) }
-    ensures follows { OnOk result (T.follows tables.old tables.new) }
-    ensures stops { IfErr result (StopsAs T.follows T.fails tables.old tables.new) }
+    ensures calls { Advances T.follows (StopsAs T.follows T.fails) tables.old tables.new result }
 {
     let PartList {
         arch,
@@ -155,8 +153,7 @@ fn merge_parts<T: MergeTables, R: ReadParagraphs>(
         (IsGiven (BreaksFor R.breaks parts.items) machine text bad) (λ records. T.holds tables.new (with_records records at))
         parts.items at.now.machine.records replies.items) }
     ensures kinds { IfOk result (λ replies. AllByRecursion (λ reply. IsPartEnd reply.end) replies.items) }
-    ensures follows { OnOk result (T.follows tables.old tables.new) }
-    ensures stops { IfErr result (StopsAs T.follows T.fails tables.old tables.new) }
+    ensures calls { Advances T.follows (StopsAs T.follows T.fails) tables.old tables.new result }
 {
     let mut replies = Vec::new(alloc);
     for part in parts {
@@ -170,8 +167,7 @@ fn merge_parts<T: MergeTables, R: ReadParagraphs>(
 fn clear_all<T: MergeTables>(tables: &mut T) -> Result<(), MergeFault<T::Fault>>
     ensures value { (at : Tables) → T.is_clean tables.new → T.holds tables.old at
         → OnOk result (T.holds tables.new (with_sources [] (with_binaries [] at))) }
-    ensures follows { OnOk result (T.follows tables.old tables.new) }
-    ensures stops { IfErr result (StopsAs T.follows T.fails tables.old tables.new) }
+    ensures calls { Advances T.follows (StopsAs T.follows T.fails) tables.old tables.new result }
 {
     asked(tables.clear_scratch())
 }
@@ -194,8 +190,7 @@ pub fn merge_lists<T: MergeTables, R: ReadParagraphs>(
         → IfOk result (λ replies. IsMergeOfLists R.may_stand_at R.breaks machine
         (λ records. T.holds tables.new (with_records records at)) sources.old parts.items at.now.machine.records replies.items) }
     ensures kinds { IfOk result (λ replies. AllByRecursion (λ reply. IsPartEnd reply.end) replies.items) }
-    ensures follows { OnOk result (T.follows tables.old tables.new) }
-    ensures stops { IfErr result (StopsAs T.follows T.fails tables.old tables.new) }
+    ensures calls { Advances T.follows (StopsAs T.follows T.fails) tables.old tables.new result }
 {
     let archs = archs_of(alloc, &parts)?;
     let bad = fill_sources(alloc, tables, &archs, sources)?;

@@ -1,12 +1,12 @@
 //! One part of a merge: the Packages list of an architecture, merged into the tables or taken back.
-ghost use Rattle.std.specs.Prelude.{◌≡◌, ◌≢◌, List, [], None, Some, IfOk, IfErr, OnOk};
+ghost use Rattle.std.specs.Prelude.{◌≡◌, ◌≢◌, List, [], None, Some, IfOk, OnOk};
 ghost use Rattle.deb_relations.specs.declared.arch.ArchWords.{ArchWords};
 ghost use Rattle.deb_text.specs.Lists.{IsIn};
 ghost use Rattle.wb_states.specs.declared.reply.PartEnd.TheVariants.{Merged, Refused};
 ghost use Rattle.wb_states.specs.declared.scratch.SourceRow.{SourceRow};
 ghost use Rattle.wb_merge.specs.Merged.{merge_counts, merged};
 ghost use Rattle.wb_archive.specs.Decides.{listing_at};
-ghost use Rattle.wb_archive.specs.Faults.{StopsAs, refusal_of};
+ghost use Rattle.wb_archive.specs.Faults.{Advances, StopsAs, refusal_of};
 ghost use Rattle.wb_archive.specs.Fills.{sources_wanted};
 ghost use Rattle.wb_archive.specs.Parts.{IsListing, IsPartDone, IsPartEnd};
 ghost use Rattle.wb_archive.specs.Reads.{MayStandWhere};
@@ -25,8 +25,7 @@ use wb_states::PartEnd;
 fn save<T: MergeTables>(tables: &mut T) -> Result<(), MergeFault<T::Fault>>
     ensures value { (at : Tables) → T.is_clean tables.new → T.holds tables.old at → at.saved ≡ None
         → OnOk result (T.holds tables.new (with_savepoint at)) }
-    ensures follows { OnOk result (T.follows tables.old tables.new) }
-    ensures stops { IfErr result (StopsAs T.follows T.fails tables.old tables.new) }
+    ensures calls { Advances T.follows (StopsAs T.follows T.fails) tables.old tables.new result }
 {
     asked(tables.save())
 }
@@ -35,8 +34,7 @@ fn save<T: MergeTables>(tables: &mut T) -> Result<(), MergeFault<T::Fault>>
 fn back<T: MergeTables>(tables: &mut T) -> Result<(), MergeFault<T::Fault>>
     ensures value { (at : Tables) (saved : Contents) → T.is_clean tables.new → T.holds tables.old at → at.saved ≡ Some saved
         → OnOk result (T.holds tables.new (back_at saved at)) }
-    ensures follows { OnOk result (T.follows tables.old tables.new) }
-    ensures stops { IfErr result (StopsAs T.follows T.fails tables.old tables.new) }
+    ensures calls { Advances T.follows (StopsAs T.follows T.fails) tables.old tables.new result }
 {
     asked(tables.back_to())
 }
@@ -45,8 +43,7 @@ fn back<T: MergeTables>(tables: &mut T) -> Result<(), MergeFault<T::Fault>>
 fn release<T: MergeTables>(tables: &mut T) -> Result<(), MergeFault<T::Fault>>
     ensures value { (at : Tables) → T.is_clean tables.new → T.holds tables.old at → at.saved ≢ None
         → OnOk result (T.holds tables.new (without_savepoint at)) }
-    ensures follows { OnOk result (T.follows tables.old tables.new) }
-    ensures stops { IfErr result (StopsAs T.follows T.fails tables.old tables.new) }
+    ensures calls { Advances T.follows (StopsAs T.follows T.fails) tables.old tables.new result }
 {
     asked(tables.release())
 }
@@ -55,8 +52,7 @@ fn release<T: MergeTables>(tables: &mut T) -> Result<(), MergeFault<T::Fault>>
 fn clear<T: MergeTables>(tables: &mut T) -> Result<(), MergeFault<T::Fault>>
     ensures value { (at : Tables) → T.is_clean tables.new → T.holds tables.old at
         → OnOk result (T.holds tables.new (with_binaries [] at)) }
-    ensures follows { OnOk result (T.follows tables.old tables.new) }
-    ensures stops { IfErr result (StopsAs T.follows T.fails tables.old tables.new) }
+    ensures calls { Advances T.follows (StopsAs T.follows T.fails) tables.old tables.new result }
 {
     asked(tables.clear_binaries())
 }
@@ -67,8 +63,7 @@ fn take_back<T: MergeTables>(tables: &mut T, bad: BadList) -> Result<PartEnd, Me
         → OnOk result (T.holds tables.new (without_savepoint (back_at saved at))) }
     ensures end { IfOk result (λ end. end ≡ Refused (refusal_of bad)) }
     ensures kind { IfOk result IsPartEnd }
-    ensures follows { OnOk result (T.follows tables.old tables.new) }
-    ensures stops { IfErr result (StopsAs T.follows T.fails tables.old tables.new) }
+    ensures calls { Advances T.follows (StopsAs T.follows T.fails) tables.old tables.new result }
 {
     back(tables)?;
     release(tables)?;
@@ -89,8 +84,7 @@ fn keep<T: MergeTables>(
     ensures end { (at : Tables) → T.is_clean tables.new → T.holds tables.old at
         → IfOk result (λ end. end ≡ Merged (merge_counts at.now.machine.records arch.now.name (listing_at arch.now at.now))) }
     ensures kind { IfOk result IsPartEnd }
-    ensures follows { OnOk result (T.follows tables.old tables.new) }
-    ensures stops { IfErr result (StopsAs T.follows T.fails tables.old tables.new) }
+    ensures calls { Advances T.follows (StopsAs T.follows T.fails) tables.old tables.new result }
 {
     let counts = decide(alloc, tables, arch)?;
     clear(tables)?;
@@ -115,8 +109,7 @@ pub fn merge_part<T: MergeTables, R: ReadParagraphs>(
         IsPartDone (IsListing (R.breaks packages.old) arch.now rows place)
         (λ records. T.holds tables.new (with_records records at)) at.now.machine.records arch.now.name end)) }
     ensures kind { IfOk result IsPartEnd }
-    ensures follows { OnOk result (T.follows tables.old tables.new) }
-    ensures stops { IfErr result (StopsAs T.follows T.fails tables.old tables.new) }
+    ensures calls { Advances T.follows (StopsAs T.follows T.fails) tables.old tables.new result }
 {
     save(tables)?;
     let waited = waited_names(alloc, tables, &arch.name)?;

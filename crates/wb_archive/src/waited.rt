@@ -1,11 +1,11 @@
 //! The names for which the records of an architecture wait.
-ghost use Rattle.std.specs.Prelude.{◌≡◌, ◌||◌, ℕ, List, map, true, IfOk, IfErr, OnOk};
+ghost use Rattle.std.specs.Prelude.{◌≡◌, ◌||◌, ℕ, List, map, true, IfOk, OnOk};
 ghost use Rattle.std.specs.BTreeSet.{contains};
 ghost use Rattle.deb_relations.specs.Satisfaction.{is_among};
 ghost use Rattle.deb_text.specs.Lists.{IsIn};
 ghost use Rattle.deb_text.specs.Text.{text_cmp};
 ghost use Rattle.wb_states.specs.declared.record.Record.{Record};
-ghost use Rattle.wb_archive.specs.Faults.{StopsAs};
+ghost use Rattle.wb_archive.specs.Faults.{Advances, StopsAs};
 ghost use Rattle.wb_archive.specs.Tables.{HaveWaiting, Tables};
 ghost use Rattle.wb_archive.specs.Waited.{AreAllWaitedFor, AreWaitedFor};
 
@@ -63,8 +63,7 @@ fn waiting<T: MergeTables>(
     ensures value { (at : Tables) → T.is_clean tables.new → T.holds tables.old at
         → IfOk result (λ rows. HaveWaiting at.now.machine.records arch.now rows.items) }
     ensures same { (at : Tables) → T.is_clean tables.new → T.holds tables.old at → OnOk result (T.holds tables.new at) }
-    ensures follows { OnOk result (T.follows tables.old tables.new) }
-    ensures stops { IfErr result (StopsAs T.follows T.fails tables.old tables.new) }
+    ensures calls { Advances T.follows (StopsAs T.follows T.fails) tables.old tables.new result }
 {
     asked(tables.waiting(arch))
 }
@@ -78,8 +77,7 @@ pub(crate) fn waited_names<T: MergeTables>(
     ensures value { (at : Tables) → T.is_clean tables.new → T.holds tables.old at
         → IfOk result (λ waited. AreAllWaitedFor at.now.machine.records arch.now (contains text_cmp waited)) }
     ensures same { (at : Tables) → T.is_clean tables.new → T.holds tables.old at → OnOk result (T.holds tables.new at) }
-    ensures follows { OnOk result (T.follows tables.old tables.new) }
-    ensures stops { IfErr result (StopsAs T.follows T.fails tables.old tables.new) }
+    ensures calls { Advances T.follows (StopsAs T.follows T.fails) tables.old tables.new result }
 {
     let rows = waiting(tables, arch)?;
     Ok(names_of(alloc, &rows)?)

@@ -1,11 +1,11 @@
 //! Whether what a record waits for is available, as the tables of a merge have it.
-ghost use Rattle.std.specs.Prelude.{◌≡◌, IfOk, IfErr, IfSome, OnOk};
+ghost use Rattle.std.specs.Prelude.{◌≡◌, IfOk, IfSome, OnOk};
 ghost use Rattle.std.specs.Option.{option_map};
 ghost use Rattle.std.specs.Map.Iter.{deref};
 ghost use Rattle.wb_merge.specs.Merge.{SaysWaitsMet, are_waits_met};
 ghost use Rattle.wb_merge.specs.Scratch.{available_in, versions_in};
 ghost use Rattle.wb_archive.specs.Decides.{pairs_named, with_versions};
-ghost use Rattle.wb_archive.specs.Faults.{StopsAs};
+ghost use Rattle.wb_archive.specs.Faults.{Advances, StopsAs};
 ghost use Rattle.wb_archive.specs.Tables.{Tables};
 
 use crate::MergeTables;
@@ -39,8 +39,7 @@ fn add_named<T: MergeTables>(
     ensures value { (at : Tables) → T.is_clean tables.new → T.holds tables.old at
         → OnOk result (available.new ≡ with_versions available.old name.now (versions_in at.now.binaries name.now)) }
     ensures same { (at : Tables) → T.is_clean tables.new → T.holds tables.old at → OnOk result (T.holds tables.new at) }
-    ensures follows { OnOk result (T.follows tables.old tables.new) }
-    ensures stops { IfErr result (StopsAs T.follows T.fails tables.old tables.new) }
+    ensures calls { Advances T.follows (StopsAs T.follows T.fails) tables.old tables.new result }
 {
     let versions = asked(tables.versions_named(name))?;
     add_versions(available, name, versions)?;
@@ -56,8 +55,7 @@ fn available_of<T: MergeTables>(
     ensures value { (at : Tables) → T.is_clean tables.new → T.holds tables.old at
         → IfOk result (λ available. available ≡ pairs_named at.now.binaries names.now) }
     ensures same { (at : Tables) → T.is_clean tables.new → T.holds tables.old at → OnOk result (T.holds tables.new at) }
-    ensures follows { OnOk result (T.follows tables.old tables.new) }
-    ensures stops { IfErr result (StopsAs T.follows T.fails tables.old tables.new) }
+    ensures calls { Advances T.follows (StopsAs T.follows T.fails) tables.old tables.new result }
 {
     let mut available = Available::new(alloc);
     for name in names {
@@ -76,8 +74,7 @@ fn are_waits_met<T: MergeTables>(
     ensures value { (at : Tables) → T.is_clean tables.new → T.holds tables.old at
         → IfOk result (λ is_met. is_met ≡ are_waits_met (available_in at.now.binaries) waits.now) }
     ensures same { (at : Tables) → T.is_clean tables.new → T.holds tables.old at → OnOk result (T.holds tables.new at) }
-    ensures follows { OnOk result (T.follows tables.old tables.new) }
-    ensures stops { IfErr result (StopsAs T.follows T.fails tables.old tables.new) }
+    ensures calls { Advances T.follows (StopsAs T.follows T.fails) tables.old tables.new result }
 {
     let relations = match Relations::parse(alloc, waits.as_str()) {
         Ok(relations) => relations,
@@ -99,8 +96,7 @@ pub(crate) fn is_met<T: MergeTables>(
         → IfOk result (λ is_met. IfSome (option_map deref current.entry)
         (SaysWaitsMet (available_in at.now.binaries) is_met)) }
     ensures same { (at : Tables) → T.is_clean tables.new → T.holds tables.old at → OnOk result (T.holds tables.new at) }
-    ensures follows { OnOk result (T.follows tables.old tables.new) }
-    ensures stops { IfErr result (StopsAs T.follows T.fails tables.old tables.new) }
+    ensures calls { Advances T.follows (StopsAs T.follows T.fails) tables.old tables.new result }
 {
     match current {
         Some(current) if current.state == State::DepWait => {

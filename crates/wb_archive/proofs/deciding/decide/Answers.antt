@@ -10,7 +10,7 @@ use Rattle.wb_archive.proofs.deciding.decide.Goals as goal
 
 pub loop-name-init : goal.loop-name-init
 loop-name-init g c = record {
-  follows = c.in_ok-names.ensures.follows;
+  follows = c.in_ok-names.ensures.calls.follows;
   within = record { added = omega arith; changed = omega arith; kept = omega arith; removed = omega arith };
   half = λ at clean holds. record {
     records = at.now.machine.records;
@@ -23,7 +23,7 @@ loop-name-init g c = record {
 pub loop-name-preserved : goal.loop-name-preserved
 loop-name-preserved g c =
     let laws = g.met.T.MergeTables in
-    let went = c.in_ok-decide_one.ensures.follows in
+    let went = c.in_ok-decide_one.ensures.calls.follows in
     record {
       follows = laws.follows_on c.args.tables.now c.loop-name.tables c.decide_one.new.tables c.loop-name.invariant.follows went;
       within = subst (AreWithin (c.loop-name.name-index + 1)) (sym c.counted-counts.ensures.value)

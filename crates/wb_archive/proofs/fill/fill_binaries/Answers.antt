@@ -44,10 +44,10 @@ loop-passed-preserved g c =
     let count = g.R.ReadParagraphs.passed in
     let waited = contains text_cmp c.args.waited.now in
     record {
-      follows = laws.follows_on c.args.tables.now c.loop-passed.tables c.keep_binary.new.tables c.loop-passed.invariant.follows kept.follows;
+      follows = laws.follows_on c.args.tables.now c.loop-passed.tables c.keep_binary.new.tables c.loop-passed.invariant.follows kept.calls.follows;
       earlier = λ fault broke. c.loop-passed.invariant.earlier fault (c.in-Ok-Some.ensures.earlier fault broke);
       half = λ at clean holds first empty.
-          let both = c.loop-passed.invariant.half at (laws.clean c.loop-passed.tables c.keep_binary.new.tables kept.follows clean) holds first empty in
+          let both = c.loop-passed.invariant.half at (laws.clean c.loop-passed.tables c.keep_binary.new.tables kept.calls.follows clean) holds first empty in
           let half = both.0 in
           let number = rw c.in-Ok-Some.field-0-is at c.in-Ok-Some.ensures.number in
           let added = binary_kept waited c.loop-passed.last row in (
@@ -62,11 +62,11 @@ loop-passed-preserved g c =
           );
     }
 
-pub returns-in_err-keep_binary-in-Ok-Some-clause-stops : goal.returns-in_err-keep_binary-in-Ok-Some-clause-stops
-returns-in_err-keep_binary-in-Ok-Some-clause-stops g c =
+pub returns-in_err-keep_binary-in-Ok-Some-clause-calls : goal.returns-in_err-keep_binary-in-Ok-Some-clause-calls
+returns-in_err-keep_binary-in-Ok-Some-clause-calls g c =
     let tables = g.T.MergeTables in
     let laws = g.met.T.MergeTables in
     let stopped = c.in_err-keep_binary-in-Ok-Some in
     let stops = stops-on tables.follows tables.fails laws.follows_on laws.fails_on c.args.tables.now c.loop-passed.tables c.keep_binary.new.tables stopped.field-0.0
-    c.loop-passed.invariant.follows stopped.ensures.stops in
+    c.loop-passed.invariant.follows stopped.ensures.calls.stops in
     search (rules, stops, c.from_residual.ensures)

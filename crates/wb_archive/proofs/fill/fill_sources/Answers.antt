@@ -40,10 +40,10 @@ loop-passed-preserved g c =
     let row = c.in-Ok-Some.row in
     let count = g.R.ReadParagraphs.passed in
     record {
-      follows = laws.follows_on c.args.tables.now c.loop-passed.tables c.keep_source.new.tables c.loop-passed.invariant.follows kept.follows;
+      follows = laws.follows_on c.args.tables.now c.loop-passed.tables c.keep_source.new.tables c.loop-passed.invariant.follows kept.calls.follows;
       earlier = λ fault broke. c.loop-passed.invariant.earlier fault (c.in-Ok-Some.ensures.earlier fault broke);
       half = λ at clean holds first empty.
-          let half = c.loop-passed.invariant.half at (laws.clean c.loop-passed.tables c.keep_source.new.tables kept.follows clean) holds first empty in
+          let half = c.loop-passed.invariant.half at (laws.clean c.loop-passed.tables c.keep_source.new.tables kept.calls.follows clean) holds first empty in
           let number = rw c.in-Ok-Some.field-0-is at c.in-Ok-Some.ensures.number in
           half-step g.R.ReadParagraphs.may_stand_at source_row_at (sources_wanted c.args.archs.now) (λ (row : SourceRow). row.seq)
           c.args.list.now c.loop-passed.list c.next_source.new.list (count c.loop-passed.list) (count c.next_source.new.list) c.loop-passed.passed half row (sources_wanted c.args.archs.now (row ∷ []))
@@ -54,11 +54,11 @@ loop-passed-preserved g c =
           (source-numbered c.args.archs.now (c.loop-passed.passed + 1) row number);
     }
 
-pub returns-in_err-keep_source-in-Ok-Some-clause-stops : goal.returns-in_err-keep_source-in-Ok-Some-clause-stops
-returns-in_err-keep_source-in-Ok-Some-clause-stops g c =
+pub returns-in_err-keep_source-in-Ok-Some-clause-calls : goal.returns-in_err-keep_source-in-Ok-Some-clause-calls
+returns-in_err-keep_source-in-Ok-Some-clause-calls g c =
     let tables = g.T.MergeTables in
     let laws = g.met.T.MergeTables in
     let stopped = c.in_err-keep_source-in-Ok-Some in
     let stops = stops-on tables.follows tables.fails laws.follows_on laws.fails_on c.args.tables.now c.loop-passed.tables c.keep_source.new.tables stopped.field-0.0
-    c.loop-passed.invariant.follows stopped.ensures.stops in
+    c.loop-passed.invariant.follows stopped.ensures.calls.stops in
     search (rules, stops, c.from_residual.ensures)

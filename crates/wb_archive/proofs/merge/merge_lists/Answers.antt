@@ -14,8 +14,8 @@ use Rattle.wb_archive.proofs.merge.merge_lists.Goals as goal
 pub returns-clause-value : goal.returns-clause-value
 returns-clause-value g c = λ at machine clean holds unsaved no_sources no_binaries unread parts_unread.
     let laws = g.met.T.MergeTables in
-    let at_parts = laws.clean c.merge_parts.new.tables c.clear_all.new.tables c.in_ok-clear_all.ensures.follows clean in
-    let at_fill = laws.clean c.fill_sources.new.tables c.merge_parts.new.tables c.in_ok-replies.ensures.follows at_parts in
+    let at_parts = laws.clean c.merge_parts.new.tables c.clear_all.new.tables c.in_ok-clear_all.ensures.calls.follows clean in
+    let at_fill = laws.clean c.fill_sources.new.tables c.merge_parts.new.tables c.in_ok-replies.ensures.calls.follows at_parts in
     let archs_is : c.deref-2.result.now ≡ archs_of c.args.parts.items = c.deref-2.ensures.value ∙ c.in_ok-archs.ensures.value ∙ ap archs_of c.deref.ensures.value in
     let known = subst (λ (archs : List ArchWords). AreAllKnown archs c.args.parts.items) (sym archs_is) (known-all c.args.parts.items) in
     let MayStand = g.R.ReadParagraphs.may_stand_at in

@@ -26,7 +26,7 @@ loop-part-init g c =
 pub loop-part-preserved : goal.loop-part-preserved
 loop-part-preserved g c =
     let laws = g.met.T.MergeTables in
-    let went = c.in_ok-reply.ensures.follows in
+    let went = c.in_ok-reply.ensures.calls.follows in
     let split : c.loop-part.part-iterator.rest.items ≡ c.in-Some.part ∷ c.next.new.self.rest.items = search rules in
     record {
       follows = laws.follows_on c.args.tables.now c.loop-part.tables c.reply_to.new.tables c.loop-part.invariant.follows went;

@@ -19,10 +19,10 @@ pub returns-in-Some-clause-value : goal.returns-in-Some-clause-value
 returns-in-Some-clause-value g c = λ at archs rows clean holds first unsaved empty sources there.
     let laws = g.met.T.MergeTables in
     if-ok-from _ c.take_back.result (λ (end : PartEnd) done.
-    let went = on-ok-at _ c.take_back.result end done c.take_back.ensures.follows in
+    let went = on-ok-at _ c.take_back.result end done c.take_back.ensures.calls.follows in
     let at_fill = laws.clean c.fill_binaries.new.tables c.take_back.new.tables went clean in
-    let at_waited = laws.clean c.waited_names.new.tables c.fill_binaries.new.tables c.in_ok-bad.ensures.follows at_fill in
-    let at_save = laws.clean c.save.new.tables c.waited_names.new.tables c.in_ok-waited.ensures.follows at_waited in
+    let at_waited = laws.clean c.waited_names.new.tables c.fill_binaries.new.tables c.in_ok-bad.ensures.calls.follows at_fill in
+    let at_save = laws.clean c.save.new.tables c.waited_names.new.tables c.in_ok-waited.ensures.calls.follows at_waited in
     let saved = c.in_ok-save.ensures.value at at_save holds unsaved in
     let kept = c.in_ok-waited.ensures.same (with_savepoint at) at_waited saved in
     let filled = rw c.in-Some.is at (c.in_ok-bad.ensures.value (with_savepoint at) at_fill kept first empty) in
@@ -41,10 +41,10 @@ pub returns-clause-value : goal.returns-clause-value
 returns-clause-value g c = λ at archs rows clean holds first unsaved empty sources there.
     let laws = g.met.T.MergeTables in
     if-ok-from _ c.keep.result (λ (end : PartEnd) done.
-    let went = on-ok-at _ c.keep.result end done c.keep.ensures.follows in
+    let went = on-ok-at _ c.keep.result end done c.keep.ensures.calls.follows in
     let at_fill = laws.clean c.fill_binaries.new.tables c.keep.new.tables went clean in
-    let at_waited = laws.clean c.waited_names.new.tables c.fill_binaries.new.tables c.in_ok-bad.ensures.follows at_fill in
-    let at_save = laws.clean c.save.new.tables c.waited_names.new.tables c.in_ok-waited.ensures.follows at_waited in
+    let at_waited = laws.clean c.waited_names.new.tables c.fill_binaries.new.tables c.in_ok-bad.ensures.calls.follows at_fill in
+    let at_save = laws.clean c.save.new.tables c.waited_names.new.tables c.in_ok-waited.ensures.calls.follows at_waited in
     let saved = c.in_ok-save.ensures.value at at_save holds unsaved in
     let kept = c.in_ok-waited.ensures.same (with_savepoint at) at_waited saved in
     let filled = rw c.in-None.is at (c.in_ok-bad.ensures.value (with_savepoint at) at_fill kept first empty) in (
