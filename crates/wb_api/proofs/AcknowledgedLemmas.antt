@@ -14,7 +14,8 @@ use Rattle.wb_api.specs.declared.request.Received.{Received}
 use Rattle.wb_api.specs.declared.request.Received.TheVariants as received
 use Rattle.wb_api.specs.declared.request.Request.{Request}
 use Rattle.wb_api.specs.declared.request.Request.TheVariants as request
-use Rattle.wb_api.specs.Exchange.{Exchanges, IsAnswer, IsRefusal, Response, Responds, Sends, TellsOk, memory_response, reply_response, status_of_refusal}
+use Rattle.wb_api.specs.Responses.{IsRefusal, memory_response, reply_response, Response}
+use Rattle.wb_api.specs.Exchange.{Exchanges, IsAnswer, Responds, Sends, TellsOk, status_of_refusal, over_http}
 use Rattle.wb_api.specs.declared.serve.Served.{Served}
 use Rattle.wb_api.specs.declared.serve.Served.TheVariants as served
 
@@ -46,16 +47,16 @@ refusal-not_ok Closed = not-200 503 (omega arith)
 refusal-not_ok Memory = not-200 503 (omega arith)
 refusal-not_ok (Store fault) = not-200 503 (omega arith)
 
-pub memory-not_ok : (machine : Machine) (response : Response) → response ≡ memory_response machine → ¬ (response.status ≡ 200)
+pub memory-not_ok : (machine : Machine) (response : Response) → response ≡ memory_response over_http machine → ¬ (response.status ≡ 200)
 memory-not_ok machine response same e = refusal-not_ok Memory (sym (ap (λ (r : Response). r.status) same) ∙ e)
 
-pub is_refusal-not_ok : (machine : Machine) (refusal : Refusal) (response : Response) → IsRefusal machine refusal response → ¬ (response.status ≡ 200)
+pub is_refusal-not_ok : (machine : Machine) (refusal : Refusal) (response : Response) → IsRefusal over_http machine refusal response → ¬ (response.status ≡ 200)
 is_refusal-not_ok machine refusal response (inl same) e = refusal-not_ok refusal (sym (ap (λ (r : Response). r.status) same) ∙ e)
 is_refusal-not_ok machine refusal response (inr (long, same)) e = memory-not_ok machine response same e
 
 -- a command that is answered with 200 was replied to
-reply-ok : (name : List ℕ) (result : Result Reply Refusal) (after : Machine) → (reply_response name result after).status ≡ 200
-    → IsOk result × ((reply_response name result after).machine ≡ after)
+reply-ok : (name : List ℕ) (result : Result Reply Refusal) (after : Machine) → (reply_response over_http name result after).status ≡ 200
+    → IsOk result × ((reply_response over_http name result after).machine ≡ after)
 reply-ok name (Ok reply) after e = (refl, refl)
 reply-ok name (Err refusal) after e = absurd (refusal-not_ok refusal e)
 
@@ -111,7 +112,7 @@ pub exchange-done : (got : Received) (before after : Machine) (standing : Standi
 exchange-done received.Nothing before after standing old new result command did means tells = absurd means
 exchange-done received.Failed before after standing old new result command did means tells = absurd (silent-not_ok result served.ReadFailed did.3 failed-not_ok tells)
 exchange-done received.Memory before after standing old new result command did means tells =
-    absurd (memory-not_ok before (memory_response before) refl (sends-ok (memory_response before) old new result did.2 tells))
+    absurd (memory-not_ok before (memory_response over_http before) refl (sends-ok (memory_response over_http before) old new result did.2 tells))
 exchange-done (received.Refused fault) before after standing old new result command did means tells = absurd (fault_apart means)
 exchange-done (received.Asked asked) before after standing old new result command did means tells =
     responds-done asked before after standing old new result command did (same_request (request.Command command) asked means) tells

@@ -1,5 +1,5 @@
 -- Lemmas on what may be answered to a request.
-use Rattle.std.proofs.Common.{◌≡◌, ℕ, Bool, true, false, cond, List, Option, None, Some, Result, Ok, Err, IsOk, inl, inr, refl, sym, ap, ◌∙◌, subst}
+use Rattle.std.proofs.Common.{◌≡◌, ℕ, Bool, true, false, cond, List, Option, None, Some, Result, Ok, Err, IfErr, IfOk, IsOk, inl, inr, refl, sym, ap, ◌∙◌, subst}
 use Rattle.std.proofs.lemmas.Bool.{false≢true}
 use Rattle.std.specs.FinMap as map
 use Rattle.wb_states.specs.Commands.{name_of_command}
@@ -15,18 +15,18 @@ use Rattle.wb_step.proofs.OfficeLemmas.{is_of_store-cases, refusal-cases}
 use Rattle.wb_step.proofs.CountedLemmas.{step-unchanged}
 use Rattle.wb_states.specs.Machine.{is_unknown_arch, is_unknown_builder}
 use Rattle.wb_step.specs.Checks.{MayWantMemory}
-use Rattle.wb_step.specs.Offices.{Leads, Open, Shut, Standing, Stands}
+use Rattle.wb_step.specs.Offices.{Failed, Leads, Open, Shut, Standing, Stands}
 use Rattle.wb_states.specs.State.{state_named}
 use Rattle.wb_states.specs.declared.state.State.{State}
 use Rattle.wb_states.specs.Queries.{answer_in, answer_of, depends_at, found_at, has_malformed_name, records_in}
 use Rattle.wb_states.specs.declared.query.Answer.{Answer as Found}
 use Rattle.wb_step.specs.Step.{step}
-use Rattle.wb_api.proofs.PlainLemmas.{refusal_text-Memory}
+use Rattle.wb_api.proofs.ResponseLemmas.{memory-refusal, said-as}
 use Rattle.wb_api.specs.Encoding.{is_plain, reply_text}
-use Rattle.wb_api.specs.Queries.{query_text}
 use Rattle.wb_states.specs.declared.query.Query.{Query}
 use Rattle.wb_states.specs.declared.query.Query.TheVariants as query
-use Rattle.wb_api.specs.Exchange.{IsCommandAnswer, IsQueryAnswer, IsRefusal, Response, command_response, found_response, memory_response, refusal_response, reply_response}
+use Rattle.wb_api.specs.Responses.{IsFoundAnswer, command_response, found_response, IsRefusal, memory_response, refusal_response, reply_response, Response}
+use Rattle.wb_api.specs.Exchange.{IsCommandAnswer, IsQueryAnswer, over_http}
 
 -- ---- where a refusal leads
 
@@ -53,50 +53,40 @@ refusal-leads is_clean is_closed stands_at leaves old new IsSo refusal doubt clo
       ]
     ]) refl
 
--- a response to a refusal is one to the same refusal
-pub said-as : (machine : Machine) (response : Response) {refusal same : Refusal} → refusal ≡ same → IsRefusal machine refusal response → IsRefusal machine same response
-said-as machine response is = subst (λ refusal. IsRefusal machine refusal response) is
-
 -- ---- what is answered
 
 -- what is answered to a refused command is the refusal
 refused-response : (machine : Machine) (command : Command) (refusal : Refusal) → (step machine command).0 ≡ Err refusal
-    → command_response machine command ≡ refusal_response machine refusal
+    → command_response over_http machine command ≡ refusal_response over_http machine refusal
 refused-response machine command refusal e =
-    ap (λ (r : Result Reply Refusal). reply_response (name_of_command command) r (step machine command).1) e
-    ∙ ap (reply_response (name_of_command command) (Err refusal)) (step-unchanged machine command refusal e)
+    ap (λ (r : Result Reply Refusal). reply_response over_http (name_of_command command) r (step machine command).1) e
+    ∙ ap (reply_response over_http (name_of_command command) (Err refusal)) (step-unchanged machine command refusal e)
 
 -- the reply to a command is answered
 pub reply-answered : (machine : Machine) (command : Command) (reply : Reply) (text : List ℕ)
     → (step machine command).0 ≡ Ok reply → text ≡ reply_text (name_of_command command) reply
-    → IsCommandAnswer machine command (record { status = 200; body = text; machine = (step machine command).1 }) Open
+    → IsCommandAnswer machine command (record { status = 200; text = text; machine = (step machine command).1 }) Open
 reply-answered machine command reply text e said =
     inl (
-      inl (ap (λ t. record { status = 200; body = t; machine = (step machine command).1 }) said
-          ∙ sym (ap (λ (r : Result Reply Refusal). reply_response (name_of_command command) r (step machine command).1) e)),
+      inl (ap (λ t. record { status = 200; text = t; machine = (step machine command).1 }) said
+          ∙ sym (ap (λ (r : Result Reply Refusal). reply_response over_http (name_of_command command) r (step machine command).1) e)),
       refl,
     )
 
 -- a refusal of the machine is answered, or that there is no memory for its text
 pub refusal-answered : (machine : Machine) (command : Command) (refusal : Refusal) (response : Response)
-    → (step machine command).0 ≡ Err refusal → IsRefusal machine refusal response → IsCommandAnswer machine command response Open
+    → (step machine command).0 ≡ Err refusal → IsRefusal over_http machine refusal response → IsCommandAnswer machine command response Open
 refusal-answered machine command refusal response e (inl same) = inl (inl (same ∙ sym (refused-response machine command refusal e)), refl)
 refusal-answered machine command refusal response e (inr (long, same)) = inl (inr (inl (inr (refusal, e, long)), same), refl)
 
--- the text of the refusal for want of memory is a constant
-pub memory-refusal : (machine : Machine) (response : Response) → IsRefusal machine Memory response → response ≡ memory_response machine
-memory-refusal machine response (inl same) =
-    same ∙ ap (λ t. record { status = 503; body = t; machine = machine }) refusal_text-Memory
-memory-refusal machine response (inr (long, same)) = same
-
 -- that there is no memory is answered to a command that may want some
 pub memory-answered : (machine : Machine) (command : Command) (response : Response)
-    → MayWantMemory command → IsRefusal machine Memory response → IsCommandAnswer machine command response Open
-memory-answered machine command response wants is = inl (inr (inl (inl wants), memory-refusal machine response is), refl)
+    → MayWantMemory command → IsRefusal over_http machine Memory response → IsCommandAnswer machine command response Open
+memory-answered machine command response wants is = inl (inr (inl (inl wants), memory-refusal over_http machine response is), refl)
 
 -- that there is no memory is answered to a command whose reply repeats an assignment
 pub repeat-answered : (machine : Machine) (command : Command) (reply : Reply) (response : Response)
-    → (step machine command).0 ≡ Ok reply → (step machine command).1 ≡ machine → response ≡ memory_response machine
+    → (step machine command).0 ≡ Ok reply → (step machine command).1 ≡ machine → response ≡ memory_response over_http machine
     → IsCommandAnswer machine command response Open
 repeat-answered machine command reply response e same is =
     inl (inr (inr (subst (λ (result : Result Reply Refusal). IsOk result) (sym e) refl, same), is), refl)
@@ -147,24 +137,47 @@ pub plain-query : (machine : Machine) (query : Query) (refusal : Refusal) → an
 unfolding answer_of
 plain-query machine query refusal e = plain-unless (has_malformed_name query) BadName refusal (answer_in machine query) refl (plain-in machine query refusal) e
 
--- what was found is answered
-pub found-answered : (machine : Machine) (query : Query) (found : Found) (text : List ℕ) → answer_of machine query ≡ Ok found → text ≡ query_text found
-    → IsQueryAnswer machine query (record { status = 200; body = text; machine = machine }) Open
-found-answered machine query found text e said =
-    inl (inl (ap (λ t. record { status = 200; body = t; machine = machine }) said ∙ sym (ap (found_response machine) e)), refl)
-
 -- there is no memory for the text of what was found
-pub found-unsaid : (machine : Machine) (query : Query) (found : Found) (response : Response) → answer_of machine query ≡ Ok found
-    → response ≡ memory_response machine → IsQueryAnswer machine query response Open
+found-unsaid : (machine : Machine) (query : Query) (found : Found) (response : Response) → answer_of machine query ≡ Ok found
+    → response ≡ memory_response over_http machine → IsQueryAnswer machine query response Open
 found-unsaid machine query found response e is = inl (inr (found-formed machine query found e, is), refl)
 
+-- what was found is answered, or that there is no memory for its text
+found-answered : (machine : Machine) (query : Query) (found : Found) (response : Response) → answer_of machine query ≡ Ok found
+    → IsFoundAnswer over_http machine (Ok found) response → IsQueryAnswer machine query response Open
+found-answered machine query found response e (inl same) = inl (inl (same ∙ sym (ap (found_response over_http machine) e)), refl)
+found-answered machine query found response e (inr none) = found-unsaid machine query found response e none
+
 -- the refusal of a query is answered
-pub query-refused : (machine : Machine) (query : Query) (refusal : Refusal) (response : Response) → answer_of machine query ≡ Err refusal
-    → IsRefusal machine refusal response → IsQueryAnswer machine query response Open
-query-refused machine query refusal response e (inl same) = inl (inl (same ∙ sym (ap (found_response machine) e)), refl)
+query-refused : (machine : Machine) (query : Query) (refusal : Refusal) (response : Response) → answer_of machine query ≡ Err refusal
+    → IsRefusal over_http machine refusal response → IsQueryAnswer machine query response Open
+query-refused machine query refusal response e (inl same) = inl (inl (same ∙ sym (ap (found_response over_http machine) e)), refl)
 query-refused machine query refusal response e (inr (long, same)) = absurd (false≢true (sym long ∙ plain-query machine query refusal e))
 
 -- that there is no memory is answered to a query whose names are well formed
-pub query-unasked : (machine : Machine) (query : Query) (response : Response) → has_malformed_name query ≡ false → IsRefusal machine Memory response
+query-unasked : (machine : Machine) (query : Query) (response : Response) → has_malformed_name query ≡ false → IsRefusal over_http machine Memory response
     → IsQueryAnswer machine query response Open
-query-unasked machine query response wants is = inl (inr (wants, memory-refusal machine response is), refl)
+query-unasked machine query response wants is = inl (inr (wants, memory-refusal over_http machine response is), refl)
+
+-- what an office found, or its refusal, is answered, and the office then stands so
+pub found-leads : {X : Type 0} (is_clean is_closed : X → Type 0) (stands_at : X → Machine → Type 0) (leaves : X → Machine → Machine → StoreFault → Type 0) (old new : X)
+    (query : Query) (found : Result Found Refusal) (response : Machine → Response)
+    → ((machine : Machine) → IsFoundAnswer over_http machine found (response machine))
+    → ((machine : Machine) → is_clean new → stands_at old machine
+    → IfOk found (λ answer. (answer_of machine query ≡ Ok answer) × stands_at new machine))
+    → ((machine : Machine) → is_clean new → stands_at old machine
+    → IfErr found (λ refusal. IsOfMachine refusal → is_of_store refusal ≡ false → (answer_of machine query ≡ Err refusal) × stands_at new machine))
+    → ((machine : Machine) → is_clean new → stands_at old machine → found ≡ Err Memory → (has_malformed_name query ≡ false) × stands_at new machine)
+    → ((machine : Machine) → is_clean new → stands_at old machine → found ≡ Err Closed → is_closed new × stands_at new machine)
+    → ((machine : Machine) → is_clean new → stands_at old machine → (fault : StoreFault) → found ≡ Err (Store fault) → leaves new machine machine fault)
+    → Leads is_clean is_closed stands_at leaves old new (λ before after standing. IsQueryAnswer before query (response after) standing)
+found-leads is_clean is_closed stands_at leaves old new query (Ok answer) response said answered refused memory closed store = λ before clean stands.
+    let done = answered before clean stands in (before, Open, done.1, found-answered before query answer (response before) done.0 (said before))
+found-leads is_clean is_closed stands_at leaves old new query (Err refusal) response said answered refused memory closed store =
+    refusal-leads is_clean is_closed stands_at leaves old new (λ before after standing. IsQueryAnswer before query (response after) standing) refusal (λ fault. Failed fault)
+    (λ before clean stands is. (closed before clean stands (ap Err is), inr (inl (said-as over_http before (response before) is (said before), refl))))
+    (λ before clean stands fault is. (store before clean stands fault (ap Err is), inr (inr (fault, said-as over_http before (response before) is (said before), refl))))
+    (λ before clean stands is. let wants = memory before clean stands (ap Err is) in
+    (wants.1, query-unasked before query (response before) wants.0 (said-as over_http before (response before) is (said before))))
+    (λ before clean stands machine other. let kept = refused before clean stands machine other in
+    (kept.1, query-refused before query refusal (response before) kept.0 (said before)))

@@ -9,6 +9,7 @@ pub mod QueryLemmas
 pub mod QueryLineLemmas
 pub mod ReadLemmas
 pub mod RequestLemmas
+pub mod ResponseLemmas
 pub mod RouterLemmas
 pub mod RunLemmas
 pub mod Utf8Lemmas

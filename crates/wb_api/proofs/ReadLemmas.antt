@@ -5,7 +5,7 @@ use Rattle.std.proofs.lemmas.Bool.{cases_lt}
 use Rattle.httparse.specs.Grammar.{RequestHead}
 use Rattle.wb_streams.specs.Bodies.{TookLess, TookNoMore}
 use Rattle.wb_streams.specs.Heads.{IsHeadAt, head_limit}
-use Rattle.wb_api.specs.Requests.{IsRequestFront, IsWithinRequest, body_length, wanted_of}
+use Rattle.wb_api.specs.Requests.{IsRequestFront, IsWithinRequest, LacksMemory, LacksRest, body_length, wanted_of}
 use Rattle.wb_api.proofs.RequestLemmas.{IsHead-from}
 use Rattle.wb_streams.proofs.StreamLemmas.{Consumes-then}
 
@@ -45,3 +45,18 @@ within_from old mid new seen count head p within at (taken, q, less) =
         | inr none ↦ inl (omega arith)
       ],
     )
+
+-- a head came, and then memory ran out for the rest of the request
+pub lacks_from : (old mid new : Option (List ℕ)) (seen : List ℕ) (count : ℕ) (head : RequestHead)
+    → Consumes old mid seen → length seen ≤ head_limit → IsHeadAt seen count head
+    → ((taken : List ℕ) × Consumes mid new taken × LacksRest (wanted_of head) (drop count seen) taken) → LacksMemory old new
+lacks_from old mid new seen count head p within at (taken, q, lacks) = record {
+  head = head;
+  came = seen;
+  already = drop count seen;
+  taken = taken;
+  reads = Consumes-then old mid new seen taken p q;
+  within = within;
+  is = record { reads = at.reads; within = omega (arith, at.count_is, at.count_fits, within); fields = at.fields };
+  lacks = lacks;
+}

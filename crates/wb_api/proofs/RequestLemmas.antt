@@ -8,9 +8,10 @@ use Rattle.httparse.specs.Grammar.{HasNoRequest, NeverHasRequest, ReadsRequest, 
 use Rattle.httparse.specs.Spans.{name_and_value}
 use Rattle.httparse.proofs.GrammarLemmas.{ReadsRequest-append}
 use Rattle.wb_api.specs.Commands.{command_of}
+use Rattle.wb_streams.proofs.StreamLemmas.{Consumes-nil}
 use Rattle.wb_streams.specs.Fields.{NameAndValue}
 use Rattle.wb_streams.specs.Heads.{HasManyFields, IsHeadAt, IsMalformed, IsTooLarge, IsUnfinished, head_limit}
-use Rattle.wb_api.specs.Requests.{Answers, IsHead, Means, TakesMemory, WantsOr, asked, body_asked, query_wanted, wanted_from, wanted_of}
+use Rattle.wb_api.specs.Requests.{Answers, DecodesPath, IsHead, LacksRest, Means, TakesMemory, WantsOr, asked, asked_in, body_asked, query_wanted, wanted_from, wanted_of}
 use Rattle.wb_api.specs.Routes.{and_then, decoded_text, part_at, query_about, query_of}
 use Rattle.wb_states.specs.declared.query.Query.{Query}
 use Rattle.wb_states.specs.declared.query.Query.TheVariants as query
@@ -115,6 +116,27 @@ body_whole (Some l) (Some r) already taken body kind count result p fits is h =
     let front : body ≡ take count ((already ++ taken) ++ r) = is ∙ sym (take-append-le count (already ++ taken) r fits) in
     let same = body_asked-whole kind count ((already ++ taken) ++ r) body more front in
     subst (λ x. Answers (body_asked kind count x) result) (sym all) (subst (λ x. Answers x result) (sym same) h)
+
+-- what a body asks for that came whole with its head
+pub body_here : (old : Option (List ℕ)) (already body : List ℕ) (kind : CommandKind) (count : ℕ) (result : Received)
+    → Answers (asked_in kind body) result → count ≤ length already → body ≡ take count already
+    → IfSome old (λ left. Answers (body_asked kind count (already ++ left)) result)
+body_here old already body kind count result h fits is =
+    let all : already ++ [] ≡ already = append-nil already in
+    body_whole old old already [] body kind count result (Consumes-nil old)
+    (subst (λ l. count ≤ length l) (sym all) fits) (is ∙ ap (take count) (sym all)) h
+
+-- a path that is decoded takes memory
+pub decodes-takes : (what : Result Wanted Fault) → DecodesPath what → TakesMemory what
+decodes-takes (Ok (wanted.Query query)) decodes = tt
+decodes-takes (Ok (wanted.Body kind count)) decodes = tt
+decodes-takes (Err fault) decodes = decodes
+
+-- memory ran out for a path, and nothing after the head was read
+pub decodes-lacks : (what : Result Wanted Fault) (already : List ℕ) → DecodesPath what → LacksRest what already []
+decodes-lacks (Ok (wanted.Query query)) already decodes = refl
+decodes-lacks (Ok (wanted.Body kind count)) already decodes = absurd decodes
+decodes-lacks (Err fault) already decodes = (decodes, refl)
 
 -- a body that the input ends before
 pub body_cut : (old new : Option (List ℕ)) (already taken : List ℕ) (kind : CommandKind) (count : ℕ)

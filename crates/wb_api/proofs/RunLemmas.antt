@@ -17,7 +17,8 @@ use Rattle.wb_api.specs.declared.request.Request.TheVariants as request
 use Rattle.wb_states.specs.Queries.{answer_of}
 use Rattle.wb_states.specs.declared.query.Query.{Query}
 use Rattle.wb_api.proofs.AcknowledgedLemmas.{is_refusal-not_ok, memory-not_ok, refusal-not_ok, sends-ok}
-use Rattle.wb_api.specs.Exchange.{Exchanges, IsAnswer, IsQueryAnswer, IsRefusal, Response, Responds, Sends, TellsOk, found_response, is_asked, memory_response, reply_response}
+use Rattle.wb_api.specs.Responses.{found_response, IsRefusal, memory_response, reply_response, Response}
+use Rattle.wb_api.specs.Exchange.{Exchanges, IsAnswer, IsQueryAnswer, Responds, Sends, TellsOk, is_asked, over_http}
 use Rattle.wb_api.specs.Runs.{AreAccepted, Exchange, Serves}
 use Rattle.wb_api.specs.declared.serve.Served.{Served}
 
@@ -37,27 +38,27 @@ no_query : (query : Query) (ended : Served) (command : Command) → ¬ ((receive
 no_query query ended command (is, tells) = cc
 
 -- a refusal leaves the office as it was
-refusal-machine : (machine : Machine) (refusal : Refusal) (response : Response) → IsRefusal machine refusal response → response.machine ≡ machine
+refusal-machine : (machine : Machine) (refusal : Refusal) (response : Response) → IsRefusal over_http machine refusal response → response.machine ≡ machine
 refusal-machine machine refusal response (inl same) = ap (λ (r : Response). r.machine) same
 refusal-machine machine refusal response (inr (long, same)) = ap (λ (r : Response). r.machine) same
 
 refused-tells : (machine : Machine) (refusal : Refusal) (response : Response) (old new : Option (List ℕ)) (ended : Served)
-    → IsRefusal machine refusal response → Sends response old new ended → ¬ (TellsOk ended)
+    → IsRefusal over_http machine refusal response → Sends response old new ended → ¬ (TellsOk ended)
 refused-tells machine refusal response old new ended refused sent tells = is_refusal-not_ok machine refusal response refused (sends-ok response old new ended sent tells)
 
 memory-tells : (machine : Machine) (response : Response) (old new : Option (List ℕ)) (ended : Served)
-    → response ≡ memory_response machine → Sends response old new ended → ¬ (TellsOk ended)
+    → response ≡ memory_response over_http machine → Sends response old new ended → ¬ (TellsOk ended)
 memory-tells machine response old new ended same sent tells = memory-not_ok machine response same (sends-ok response old new ended sent tells)
 
 -- a refusal that a step gives is told as one
 refused-reply : (name : List ℕ) (refusal : Refusal) (after : Machine) (old new : Option (List ℕ)) (ended : Served)
-    → Sends (reply_response name (Err refusal) after) old new ended → ¬ (TellsOk ended)
-refused-reply name refusal after old new ended sent tells = refusal-not_ok refusal (sends-ok (reply_response name (Err refusal) after) old new ended sent tells)
+    → Sends (reply_response over_http name (Err refusal) after) old new ended → ¬ (TellsOk ended)
+refused-reply name refusal after old new ended sent tells = refusal-not_ok refusal (sends-ok (reply_response over_http name (Err refusal) after) old new ended sent tells)
 
 -- the answer of the step itself
 stepped : (result : Result Reply Refusal) (before after : Machine) (command : Command) (old new : Option (List ℕ)) (ended : Served)
-    → (step before command).0 ≡ result → after ≡ (reply_response (name_of_command command) result (step before command).1).machine
-    → Sends (reply_response (name_of_command command) result (step before command).1) old new ended
+    → (step before command).0 ≡ result → after ≡ (reply_response over_http (name_of_command command) result (step before command).1).machine
+    → Sends (reply_response over_http (name_of_command command) result (step before command).1) old new ended
     → Does (received.Asked (request.Command command)) ended before after
 stepped (Ok reply) before after command old new ended is left sent = inr (command, refl, subst IsOk (sym is) refl, left)
 stepped (Err refusal) before after command old new ended is left sent = inl (
@@ -77,7 +78,7 @@ answered before after standing command response old new ended (inr (inl (refused
 answered before after standing command response old new ended (inr (inr (fault, refused, doubt))) left sent =
     inl (left ∙ refusal-machine before (Store fault) response refused, not_ok _ ended (refused-tells before (Store fault) response old new ended refused sent))
 
-found-machine : (machine : Machine) (found : _) → (found_response machine found).machine ≡ machine
+found-machine : (machine : Machine) (found : _) → (found_response over_http machine found).machine ≡ machine
 found-machine machine (Ok found) = refl
 found-machine machine (Err refusal) = refl
 

@@ -1,5 +1,5 @@
 -- The commands that bodies give: JSON objects (RFC 8259). Further keys are ignored.
-use Rattle.std.specs.Prelude.{ℕ, ℤ, List, Option, None, Some, option_and_then, option_map, is_some, codes, if◌then◌else◌, Result, Ok, Err}
+use Rattle.std.specs.Prelude.{ℕ, ℤ, List, Option, None, Some, option_and_then, option_map, is_some, codes, if◌then◌else◌, IsTrue, Result, Ok, Err}
 use Rattle.std.specs.Str.{is_utf8}
 use Rattle.serde_json.specs.Data.{Data}
 use Rattle.serde_json.specs.Find.{as_i64, as_null, as_number, as_str, as_u64, get}
@@ -45,8 +45,18 @@ if_there (Some value) = as_whole_or_null value
 abbrev pub number_or_none_in : List ℕ → Data → Option (Option ℕ)
 number_or_none_in key body = if_there (get key body)
 
+-- an architecture, a source package and a version
+pub record Named : Type 0 where
+  pub arch : List ℕ
+  pub source : List ℕ
+  pub version : List ℕ
+
+-- what stands in a body, as texts
+abbrev pub subject_of : Subject → Named
+subject_of subject = record { arch = subject.arch.now; source = subject.source.now; version = subject.version.now }
+
 -- the architecture, the source package and the version that a body names
-unfoldable pub subject_in : Data → Option Subject
+unfoldable pub subject_in : Data → Option Named
 subject_in body = option_and_then (λ arch. option_and_then (λ source. option_map (λ version.
     record { arch = arch; source = source; version = version })
     (text_in (codes "version") body)) (text_in (codes "source") body)) (text_in (codes "arch") body)
@@ -132,6 +142,10 @@ command_in Report body = report_in body
 -- the value that bytes write in JSON (RFC 8259), with at most 127 levels
 unfoldable pub json_of : List ℕ → Option Data
 json_of bytes = if is_utf8 bytes then read bytes else None
+
+-- bytes that are read for a value, which takes memory
+abbrev pub IsText : List ℕ → Type 0
+IsText bytes = IsTrue (is_utf8 bytes)
 
 -- the value of a build priority in the bytes of a body
 abbrev pub value_in : List ℕ → Option ℤ

@@ -1,24 +1,18 @@
 -- What is answered to a request over HTTP, and what the request does to the office.
-use Rattle.std.specs.Prelude.{◌≡◌, ◌⊎◌, ℕ, Bool, true, false, List, Option, IfSome, Result, Ok, Err}
+use Rattle.std.specs.Prelude.{◌≡◌, ◌⊎◌, ℕ, Bool, true, false, List, Option, IfSome}
 use Rattle.std.specs.Cow.{cow_str_bytes}
 use Rattle.std.specs.Io.KnownBytes.{Appends, Consumes}
-use Rattle.wb_states.specs.Commands.{name_of_command}
 use Rattle.wb_states.specs.Machine.{Machine}
 use Rattle.wb_states.specs.declared.command.Command.{Command}
 use Rattle.wb_states.specs.declared.refusal.Refusal.{Refusal}
 use Rattle.wb_states.specs.declared.refusal.Refusal.TheVariants.{UnknownArch, UnknownBuilder, WrongArch, UnknownSource, OtherVersion, WrongState, QueueEmpty, NotHeld, AfterAhead, AlreadyThere, BadName, BadVersion, BadRelations, BadNumber, BadListing, BadReport, TextTooLong, Spent, RepeatedArch, Closed, Store, Memory}
-use Rattle.wb_states.specs.declared.reply.Reply.{Reply}
-use Rattle.wb_states.specs.declared.store_fault.StoreFault.{StoreFault}
-use Rattle.wb_step.specs.Offices.{Accepts, Standing, Open, Shut, InDoubt, Failed}
-use Rattle.wb_states.specs.Queries.{answer_of, has_malformed_name}
-use Rattle.wb_states.specs.declared.query.Answer.{Answer as Found}
-use Rattle.wb_step.specs.Step.{step}
-use Rattle.wb_api.specs.Encoding.{is_plain, memory_text, refusal_text, reply_text}
+use Rattle.wb_step.specs.Offices.{Accepts, Standing, Open, InDoubt, Failed}
+use Rattle.wb_states.specs.Queries.{has_malformed_name}
 use Rattle.wb_api.specs.Memory.{MayLackMemory}
-use Rattle.wb_api.specs.Queries.{query_text}
+use Rattle.wb_api.specs.Responses.{Form, IsRefusedByStore, Response, command_response, memory_response, query_response}
 use Rattle.wb_streams.specs.Answers.{answer_bytes, fault_text, status_of_fault}
 use Rattle.wb_streams.specs.Streams.{AppendsFront}
-use Rattle.wb_api.specs.Requests.{IsRequestFront, IsWithinRequest, Means, is_failed}
+use Rattle.wb_api.specs.Requests.{IsRequestFront, IsWithinRequest, LacksMemory, Means, is_failed}
 use Rattle.wb_streams.specs.declared.fault.Fault.{Fault}
 use Rattle.wb_api.specs.declared.request.Received.{Received}
 use Rattle.wb_api.specs.declared.request.Received.TheVariants as received
@@ -30,15 +24,9 @@ use Rattle.wb_api.specs.declared.answer.HttpAnswer.{HttpAnswer}
 use Rattle.wb_api.specs.declared.serve.Served.{Served}
 use Rattle.wb_api.specs.declared.serve.Served.TheVariants as served
 
--- what is answered to a request: the status, the body, and the state of the office after it
-pub record Response : Type 0 where
-  pub status : ℕ
-  pub body : List ℕ
-  pub machine : Machine
-
 -- an answer as a response, with the state of the office after it
 abbrev pub response_of_answer : HttpAnswer → Machine → Response
-response_of_answer answer after = record { status = answer.status; body = cow_str_bytes answer.text; machine = after }
+response_of_answer answer after = record { status = answer.status; text = cow_str_bytes answer.text; machine = after }
 
 -- ---- what is answered
 
@@ -67,63 +55,29 @@ status_of_refusal Closed = 503
 status_of_refusal Memory = 503
 status_of_refusal (Store fault) = 503
 
--- a refusal, which leaves the office as it was
-abbrev pub refusal_response : Machine → Refusal → Response
-refusal_response machine refusal = record { status = status_of_refusal refusal; body = refusal_text refusal; machine = machine }
-
--- there is no memory for the request or its answer, which leaves the office as it was
-abbrev pub memory_response : Machine → Response
-memory_response machine = record { status = 503; body = memory_text; machine = machine }
+-- the form of answers over HTTP: each refusal has its status, and a text is written as it is
+abbrev pub over_http : Form
+over_http = record { accepted = 200; refused = status_of_refusal; written = λ text. text }
 
 -- a fault of the request, about which the office is not asked
 abbrev pub fault_response : Machine → Fault → Response
-fault_response machine fault = record { status = status_of_fault fault; body = fault_text fault; machine = machine }
-
--- the office answers a command of this name, and is then in this state
-abbrev pub reply_response : List ℕ → Result Reply Refusal → Machine → Response
-reply_response name (Ok reply) after = record { status = 200; body = reply_text name reply; machine = after }
-reply_response name (Err refusal) after = record { status = status_of_refusal refusal; body = refusal_text refusal; machine = after }
-
--- what is answered to a command
-abbrev pub command_response : Machine → Command → Response
-command_response machine command =
-    reply_response (name_of_command command) (step machine command).0 (step machine command).1
-
--- what was found is answered, or the refusal
-abbrev pub found_response : Machine → Result Found Refusal → Response
-found_response machine (Ok found) = record { status = 200; body = query_text found; machine = machine }
-found_response machine (Err refusal) = refusal_response machine refusal
-
--- what is answered to a query, which leaves the office as it was
-abbrev pub query_response : Machine → Query → Response
-query_response machine query = found_response machine (answer_of machine query)
+fault_response machine fault = record { status = status_of_fault fault; text = fault_text fault; machine = machine }
 
 -- ---- what may be answered, and how the office then stands
-
--- the answer is a refusal, or that there is no memory for its text; a constant text needs none
-abbrev pub IsRefusal : Machine → Refusal → Response → Type 0
-IsRefusal machine refusal response =
-    (response ≡ refusal_response machine refusal) ⊎ ((is_plain refusal ≡ false) × (response ≡ memory_response machine))
-
--- what was asked is refused because the office is closed or because its store failed with the fault that is told, and the office then stands so
-abbrev pub IsRefusedByStore : Machine → (StoreFault → Standing) → Response → Standing → Type 0
-IsRefusedByStore machine failed response standing =
-    (IsRefusal machine Closed response × (standing ≡ Shut))
-    ⊎ ((fault : StoreFault) × IsRefusal machine (Store fault) response × (standing ≡ failed fault))
 
 -- what may be answered to a command: its reply or its refusal, or that there is no memory for it
 abbrev pub IsCommandAnswer : Machine → Command → Response → Standing → Type 0
 IsCommandAnswer machine command response standing =
-    (((response ≡ command_response machine command)
-    ⊎ (MayLackMemory machine command × (response ≡ memory_response machine))) × (standing ≡ Open))
-    ⊎ IsRefusedByStore machine (InDoubt command) response standing
+    (((response ≡ command_response over_http machine command)
+    ⊎ (MayLackMemory machine command × (response ≡ memory_response over_http machine))) × (standing ≡ Open))
+    ⊎ IsRefusedByStore over_http machine (InDoubt command) response standing
 
 -- what may be answered to a query: what was found or its refusal, or that there is no memory for it, if no name in it is malformed
 abbrev pub IsQueryAnswer : Machine → Query → Response → Standing → Type 0
 IsQueryAnswer machine query response standing =
-    (((response ≡ query_response machine query)
-    ⊎ ((has_malformed_name query ≡ false) × (response ≡ memory_response machine))) × (standing ≡ Open))
-    ⊎ IsRefusedByStore machine Failed response standing
+    (((response ≡ query_response over_http machine query)
+    ⊎ ((has_malformed_name query ≡ false) × (response ≡ memory_response over_http machine))) × (standing ≡ Open))
+    ⊎ IsRefusedByStore over_http machine Failed response standing
 
 -- what may be answered to a request
 abbrev pub IsAnswer : Machine → Request → Response → Standing → Type 0
@@ -134,8 +88,8 @@ IsAnswer machine (request.Query query) response standing = IsQueryAnswer machine
 
 -- an answer was written, or a front of it
 abbrev pub Sends : Response → Option (List ℕ) → Option (List ℕ) → Served → Type 0
-Sends response old new (served.Answered status) = (status ≡ response.status) × Appends old new (answer_bytes response.status response.body)
-Sends response old new (served.WriteFailed status) = (status ≡ response.status) × AppendsFront old new (answer_bytes response.status response.body)
+Sends response old new (served.Answered status) = (status ≡ response.status) × Appends old new (answer_bytes response.status response.text)
+Sends response old new (served.WriteFailed status) = (status ≡ response.status) × AppendsFront old new (answer_bytes response.status response.text)
 Sends response old new result = ⊥
 
 -- a request was answered, or its command was accepted and nothing was written, since there is no memory for the reply
@@ -152,7 +106,7 @@ Exchanges received.Nothing before after standing old new result =
 Exchanges received.Failed before after standing old new result =
     (after ≡ before) × (standing ≡ Open) × (new ≡ old) × (result ≡ served.ReadFailed)
 Exchanges received.Memory before after standing old new result =
-    (after ≡ before) × (standing ≡ Open) × Sends (memory_response before) old new result
+    (after ≡ before) × (standing ≡ Open) × Sends (memory_response over_http before) old new result
 Exchanges (received.Refused fault) before after standing old new result =
     (after ≡ before) × (standing ≡ Open) × Sends (fault_response before fault) old new result
 Exchanges (received.Asked request) before after standing old new result =
@@ -167,12 +121,14 @@ is_asked (received.Refused fault) = false
 is_asked (received.Asked request) = true
 
 -- what was received is what the bytes of the reader mean, if they are known; the flag of the reader is set if the reader failed, and then what was
--- read before was the front of a request, and not all of one; and no more is read than a request, with what the reads of its head may take
+-- read before was the front of a request, and not all of one; no more is read than a request, with what the reads of its head may take; and memory ran out only
+-- for a path, for a body of which nothing more was read, or for a body that is a text
 pub record Receives (old new : Stream) (came : Received) : Type 0 where
   pub value : IfSome old.bytes (λ input. Means input came)
   pub failed : Flags (is_failed came) old new
   pub front : came ≡ received.Failed → (seen : List ℕ) × Consumes old.bytes new.bytes seen × IsRequestFront seen
   pub bound : (seen : List ℕ) × Consumes old.bytes new.bytes seen × IsWithinRequest seen
+  pub memory : came ≡ received.Memory → LacksMemory old.bytes new.bytes
 
 -- whether an exchange ended without an answer
 abbrev pub is_silent : Served → Bool

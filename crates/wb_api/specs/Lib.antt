@@ -6,6 +6,7 @@ pub mod Outcomes
 pub mod Queries
 pub mod QueryValues
 pub mod Requests
+pub mod Responses
 pub mod Routes
 pub mod Runs
 pub mod Values

@@ -1,10 +1,11 @@
 -- What the bytes of a connection ask for: one request (RFC 9112, section 2.1), and what follows it is ignored.
-use Rattle.std.specs.Prelude.{◌≡◌, ◌⊎◌, ℕ, ◌<◌, ◌≤◌, Bool, true, false, nat_le, List, [], ◌∷◌, length, take, map, codes, decimal, if◌then◌else◌}
+use Rattle.std.specs.Prelude.{◌≡◌, ◌⊎◌, ℕ, ◌<◌, ◌≤◌, Bool, true, false, nat_le, List, [], ◌∷◌, ◌++◌, length, take, map, codes, decimal, if◌then◌else◌}
 use Rattle.std.specs.Prelude.{Option, None, Some, Result, Ok, Err, ⊤}
+use Rattle.std.specs.Io.KnownBytes.{Consumes}
 use Rattle.std.specs.Str.{bytes_eq}
 use Rattle.httparse.specs.Grammar.{Field, HasNoRequest, NeverHasRequest, ReadsRequest, RequestHead, crlf, print_request}
 use Rattle.httparse.specs.Spans.{name_and_value}
-use Rattle.wb_api.specs.Commands.{command_of}
+use Rattle.wb_api.specs.Commands.{IsText, command_of}
 use Rattle.wb_streams.specs.Fields.{NameAndValue, content_length, has_field, is_from_browser, length_stated, values_of}
 use Rattle.wb_streams.specs.Heads.{HasManyFields, IsHeadFront, IsUnfinished, field_limit, head_limit}
 use Rattle.wb_api.specs.Routes.{and_then, query_of, route_at}
@@ -54,16 +55,25 @@ abbrev pub TakesMemory : Result Wanted Fault → Type 0
 TakesMemory (Ok w) = ⊤
 TakesMemory (Err fault) = fault ≡ BadPath
 
--- what a head asks for, or its fault; memory ran out only for what takes memory
+-- a head whose path is decoded, which takes memory: that of a query, without a fault or with that of its path
+abbrev pub DecodesPath : Result Wanted Fault → Type 0
+DecodesPath (Ok (wanted.Query query)) = ⊤
+DecodesPath (Ok (wanted.Body kind count)) = ⊥
+DecodesPath (Err fault) = fault ≡ BadPath
+
+-- what a head asks for, or its fault; memory ran out only for a path that is decoded
 abbrev pub WantsOr : Result Wanted RequestError → Result Wanted Fault → Type 0
 WantsOr (Ok w) what = what ≡ Ok w
 WantsOr (Err (error.Fault fault)) what = what ≡ Err fault
-WantsOr (Err error.Memory) what = TakesMemory what
+WantsOr (Err error.Memory) what = DecodesPath what
+
+-- what is asked for by the bytes of a body
+abbrev pub asked_in : CommandKind → List ℕ → Result Request Fault
+asked_in kind body = and_then (command_of kind body) (λ command. Ok (request.Command command))
 
 -- what is asked for by a body of this many bytes at the front of what follows the head
 unfoldable pub body_asked : CommandKind → ℕ → List ℕ → Result Request Fault
-body_asked kind count rest = if nat_le count (length rest)
-    then and_then (command_of kind (take count rest)) (λ command. Ok (request.Command command)) else Err BodyCut
+body_asked kind count rest = if nat_le count (length rest) then asked_in kind (take count rest) else Err BodyCut
 
 -- what is asked for, with what follows the head
 abbrev pub asked_by : Wanted → List ℕ → Result Request Fault
@@ -142,6 +152,28 @@ Means input received.Memory = (head : RequestHead) × (rest : List ℕ) × IsHea
 Means input (received.Refused fault) = ((head : RequestHead) × (rest : List ℕ) × IsHead input head rest × (asked head rest ≡ Err fault))
     ⊎ HasHeadFault input fault
 Means input (received.Asked request) = (head : RequestHead) × (rest : List ℕ) × IsHead input head rest × (asked head rest ≡ Ok request)
+
+-- what was taken of a body of so many bytes if memory ran out for it, of which some came already: nothing, though some is missing, or all of it, which is a text
+abbrev pub LacksBody : ℕ → List ℕ → List ℕ → Type 0
+LacksBody count already taken = ((taken ≡ []) × (length already < count))
+    ⊎ ((count ≤ length (already ++ taken)) × IsText (take count (already ++ taken)))
+
+-- what was taken of the rest of a request if memory ran out for it, of which some came with the head
+abbrev pub LacksRest : Result Wanted Fault → List ℕ → List ℕ → Type 0
+LacksRest (Ok (wanted.Query query)) already taken = taken ≡ []
+LacksRest (Ok (wanted.Body kind count)) already taken = LacksBody count already taken
+LacksRest (Err fault) already taken = (fault ≡ BadPath) × (taken ≡ [])
+
+-- what was read of a request if memory ran out for it: its head, with what came with it, and of the rest of the request nothing, or a body that is a text
+pub record LacksMemory (old new : Option (List ℕ)) : Type 0 where
+  pub head : RequestHead
+  pub came : List ℕ
+  pub already : List ℕ
+  pub taken : List ℕ
+  pub reads : Consumes old new (came ++ taken)
+  pub within : length came ≤ head_limit
+  pub is : IsHead came head already
+  pub lacks : LacksRest (wanted_of head) already taken
 
 -- how many bytes of a body a head asks for: none unless it is a command without a fault
 abbrev pub body_length : Result Wanted Fault → ℕ

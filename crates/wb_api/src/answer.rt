@@ -2,7 +2,8 @@
 ghost use Rattle.std.specs.Prelude.{◌≡◌, IfSome, None};
 ghost use Rattle.wb_states.specs.Machine.{Machine};
 ghost use Rattle.wb_step.specs.Offices.{Accepts, Leads, Reaches};
-ghost use Rattle.wb_api.specs.Exchange.{fault_response, IsCommandAnswer, IsRefusal, memory_response, response_of_answer};
+ghost use Rattle.wb_api.specs.Responses.{IsRefusal, memory_response};
+ghost use Rattle.wb_api.specs.Exchange.{fault_response, IsCommandAnswer, response_of_answer, over_http};
 
 use crate::encode::reply_json;
 use crate::refusal::{refusal_json, try_refusal_json};
@@ -23,7 +24,7 @@ pub(crate) struct HttpAnswer {
 
 /// The answer that memory ran out. It takes no memory.
 pub(crate) fn memory_answer(alloc: Global) -> HttpAnswer
-    ensures value { (machine : Machine) → response_of_answer result machine ≡ memory_response machine }
+    ensures value { (machine : Machine) → response_of_answer result machine ≡ memory_response over_http machine }
 {
     HttpAnswer {
         status: StatusCode::SERVICE_UNAVAILABLE,
@@ -44,7 +45,7 @@ pub(crate) fn fault_answer(fault: Fault) -> HttpAnswer
 /// The answer to what was refused. It says that memory ran out if there is none for the text of the refusal.
 pub(crate) fn refusal_answer(alloc: Global, refusal: &Refusal) -> HttpAnswer
     ensures value { (machine : Machine)
-        → IsRefusal machine refusal.now (response_of_answer result machine) }
+        → IsRefusal over_http machine refusal.now (response_of_answer result machine) }
 {
     match try_refusal_json(alloc, refusal) {
         Ok(text) => HttpAnswer {

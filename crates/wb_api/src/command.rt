@@ -1,10 +1,13 @@
-//! The bodies of requests that give a command: JSON objects (RFC 8259).
-ghost use Rattle.std.specs.Prelude.{◌≡◌, codes, IfOk, option_map};
+//! The bodies of requests that give a command: JSON objects (RFC 8259). All that a command needs of its body is found before
+//! any of it is copied, so that a key that is missing is never reported as out of memory.
+ghost use Rattle.std.specs.Prelude.{◌≡◌, codes, Err, IfOk, IfSome, IsSome, OnErr, option_map};
 ghost use Rattle.serde_json.specs.View.{view};
 ghost use Rattle.wb_api.specs.Commands.{attempted_in, build_priority_in, command_in, command_of, dep_wait_in, fail_in};
-ghost use Rattle.wb_api.specs.Commands.{give_back_in, integer_in, json_of, next_in, not_for_us_in, number_in};
+ghost use Rattle.wb_api.specs.Commands.{give_back_in, integer_in, json_of, next_in, not_for_us_in, number_in, or_bad_body};
 ghost use Rattle.wb_api.specs.Commands.{number_or_none_in, rebuild_in, report_in, subject_in, take_in, text_in, waits_in};
+ghost use Rattle.wb_api.specs.Commands.{IsText, subject_of};
 ghost use Rattle.wb_api.specs.Outcomes.{GivesOr};
+ghost use Rattle.wb_api.specs.declared.failure.RequestError.TheVariants.{Memory};
 
 use crate::failure::RequestError;
 use crate::route::CommandKind;
@@ -15,21 +18,21 @@ use std::str;
 use wb_states::{Command, command};
 use wb_streams::Fault;
 
-/// The architecture, the source package and the version that a command names.
-#[derive(Drop)]
-struct Subject {
-    arch: Text,
-    source: Text,
-    version: Text,
+/// The architecture, the source package and the version that a body names, as they stand in it.
+#[derive(Clone, Copy)]
+struct Subject<'a> {
+    arch: &'a str,
+    source: &'a str,
+    version: &'a str,
 }
 
-/// The text under a key; `None` if there is no text. The only error is that memory ran out.
-fn text_in(alloc: Global, key: &str, body: &Value) -> Result<Option<Text>, AllocError>
-    ensures value { IfOk result (λ text. text ≡ text_in key.now (view body.now)) }
+/// The text under a key, as it stands in the body; `None` if there is no text. Takes no memory.
+fn text_in<'a>(key: &str, body: &'a Value) -> Option<&'a str>
+    ensures value { option_map (λ text. text.now) result ≡ text_in key.now (view body.now) }
 {
-    match body.get(key).and_then(Value::as_str) {
-        Some(text) => Ok(Some(Text::copied(alloc, text)?)),
-        None => Ok(None),
+    match body.get(key) {
+        Some(value) => value.as_str(),
+        None => None,
     }
 }
 
@@ -64,42 +67,39 @@ fn number_or_none_in(key: &str, body: &Value) -> Option<Option<u64>>
     }
 }
 
+/// The architecture, the source package and the version that a body names; `None` if one of them is missing. Takes no
+/// memory.
 #[tactic(auto, unfolding(crate::specs::Commands::subject_in))]
-fn subject_in(alloc: Global, body: &Value) -> Result<Option<Subject>, AllocError>
-    ensures value { IfOk result (λ subject. subject ≡ subject_in (view body.now)) }
+fn subject_in(body: &Value) -> Option<Subject<'_>>
+    ensures value { option_map subject_of result ≡ subject_in (view body.now) }
 {
-    let Some(arch) = text_in(alloc, "arch", body)? else {
-        return Ok(None);
-    };
-    let Some(source) = text_in(alloc, "source", body)? else {
-        return Ok(None);
-    };
-    let Some(version) = text_in(alloc, "version", body)? else {
-        return Ok(None);
-    };
-    Ok(Some(Subject {
+    let arch = text_in("arch", body)?;
+    let source = text_in("source", body)?;
+    let version = text_in("version", body)?;
+    Some(Subject {
         arch,
         source,
         version,
-    }))
+    })
 }
 
 #[tactic(auto, unfolding(crate::specs::Commands::next_in))]
 fn next_in(alloc: Global, body: &Value) -> Result<Option<Command>, AllocError>
     ensures value { IfOk result (λ command. command ≡ next_in (view body.now)) }
+    ensures memory { OnErr result (IsSome (next_in (view body.now))) }
 {
-    let Some(arch) = text_in(alloc, "arch", body)? else {
+    let Some(arch) = text_in("arch", body) else {
         return Ok(None);
     };
-    let Some(builder) = text_in(alloc, "builder", body)? else {
+    let Some(builder) = text_in("builder", body) else {
         return Ok(None);
     };
     let Some(after) = number_or_none_in("after", body) else {
         return Ok(None);
     };
     Ok(Some(Command::Next(command::Next {
-        arch,
-        builder,
+        arch: Text::copied(alloc, arch)?,
+        builder: Text::copied(alloc, builder)?,
         after,
     })))
 }
@@ -107,18 +107,19 @@ fn next_in(alloc: Global, body: &Value) -> Result<Option<Command>, AllocError>
 #[tactic(auto, unfolding(crate::specs::Commands::take_in))]
 fn take_in(alloc: Global, body: &Value) -> Result<Option<Command>, AllocError>
     ensures value { IfOk result (λ command. command ≡ take_in (view body.now)) }
+    ensures memory { OnErr result (IsSome (take_in (view body.now))) }
 {
-    let Some(subject) = subject_in(alloc, body)? else {
+    let Some(subject) = subject_in(body) else {
         return Ok(None);
     };
-    let Some(builder) = text_in(alloc, "builder", body)? else {
+    let Some(builder) = text_in("builder", body) else {
         return Ok(None);
     };
     Ok(Some(Command::Take(command::Take {
-        arch: subject.arch,
-        builder,
-        source: subject.source,
-        version: subject.version,
+        arch: Text::copied(alloc, subject.arch)?,
+        builder: Text::copied(alloc, builder)?,
+        source: Text::copied(alloc, subject.source)?,
+        version: Text::copied(alloc, subject.version)?,
     })))
 }
 
@@ -132,139 +133,147 @@ fn held_in(body: &Value) -> Option<command::Held>
 #[tactic(auto, unfolding(crate::specs::Commands::waits_in))]
 fn waits_in(alloc: Global, body: &Value) -> Result<Option<Command>, AllocError>
     ensures value { IfOk result (λ command. command ≡ waits_in (view body.now)) }
+    ensures memory { OnErr result (IsSome (waits_in (view body.now))) }
 {
     let Some(take_number) = number_in("take", body) else {
         return Ok(None);
     };
-    let Some(relations) = text_in(alloc, "relations", body)? else {
+    let Some(relations) = text_in("relations", body) else {
         return Ok(None);
     };
     Ok(Some(Command::Waits(command::Waits {
         take_number,
-        relations,
+        relations: Text::copied(alloc, relations)?,
     })))
 }
 
 #[tactic(auto, unfolding(crate::specs::Commands::attempted_in))]
 fn attempted_in(alloc: Global, body: &Value) -> Result<Option<Command>, AllocError>
     ensures value { IfOk result (λ command. command ≡ attempted_in (view body.now)) }
+    ensures memory { OnErr result (IsSome (attempted_in (view body.now))) }
 {
     let Some(take_number) = number_in("take", body) else {
         return Ok(None);
     };
-    let Some(reason) = text_in(alloc, "reason", body)? else {
+    let Some(reason) = text_in("reason", body) else {
         return Ok(None);
     };
     Ok(Some(Command::Attempted(command::Attempted {
         take_number,
-        reason,
+        reason: Text::copied(alloc, reason)?,
     })))
 }
 
 #[tactic(auto, unfolding(crate::specs::Commands::give_back_in))]
 fn give_back_in(alloc: Global, body: &Value) -> Result<Option<Command>, AllocError>
     ensures value { IfOk result (λ command. command ≡ give_back_in (view body.now)) }
+    ensures memory { OnErr result (IsSome (give_back_in (view body.now))) }
 {
-    let Some(subject) = subject_in(alloc, body)? else {
+    let Some(subject) = subject_in(body) else {
         return Ok(None);
     };
     Ok(Some(Command::GiveBack(command::GiveBack {
-        arch: subject.arch,
-        source: subject.source,
-        version: subject.version,
+        arch: Text::copied(alloc, subject.arch)?,
+        source: Text::copied(alloc, subject.source)?,
+        version: Text::copied(alloc, subject.version)?,
     })))
 }
 
 #[tactic(auto, unfolding(crate::specs::Commands::dep_wait_in))]
 fn dep_wait_in(alloc: Global, body: &Value) -> Result<Option<Command>, AllocError>
     ensures value { IfOk result (λ command. command ≡ dep_wait_in (view body.now)) }
+    ensures memory { OnErr result (IsSome (dep_wait_in (view body.now))) }
 {
-    let Some(subject) = subject_in(alloc, body)? else {
+    let Some(subject) = subject_in(body) else {
         return Ok(None);
     };
-    let Some(relations) = text_in(alloc, "relations", body)? else {
+    let Some(relations) = text_in("relations", body) else {
         return Ok(None);
     };
     Ok(Some(Command::DepWait(command::DepWait {
-        arch: subject.arch,
-        source: subject.source,
-        version: subject.version,
-        relations,
+        arch: Text::copied(alloc, subject.arch)?,
+        source: Text::copied(alloc, subject.source)?,
+        version: Text::copied(alloc, subject.version)?,
+        relations: Text::copied(alloc, relations)?,
     })))
 }
 
 #[tactic(auto, unfolding(crate::specs::Commands::fail_in))]
 fn fail_in(alloc: Global, body: &Value) -> Result<Option<Command>, AllocError>
     ensures value { IfOk result (λ command. command ≡ fail_in (view body.now)) }
+    ensures memory { OnErr result (IsSome (fail_in (view body.now))) }
 {
-    let Some(subject) = subject_in(alloc, body)? else {
+    let Some(subject) = subject_in(body) else {
         return Ok(None);
     };
-    let Some(note) = text_in(alloc, "note", body)? else {
+    let Some(note) = text_in("note", body) else {
         return Ok(None);
     };
     Ok(Some(Command::Fail(command::SetAside {
-        arch: subject.arch,
-        source: subject.source,
-        version: subject.version,
-        note,
+        arch: Text::copied(alloc, subject.arch)?,
+        source: Text::copied(alloc, subject.source)?,
+        version: Text::copied(alloc, subject.version)?,
+        note: Text::copied(alloc, note)?,
     })))
 }
 
 #[tactic(auto, unfolding(crate::specs::Commands::not_for_us_in))]
 fn not_for_us_in(alloc: Global, body: &Value) -> Result<Option<Command>, AllocError>
     ensures value { IfOk result (λ command. command ≡ not_for_us_in (view body.now)) }
+    ensures memory { OnErr result (IsSome (not_for_us_in (view body.now))) }
 {
-    let Some(subject) = subject_in(alloc, body)? else {
+    let Some(subject) = subject_in(body) else {
         return Ok(None);
     };
-    let Some(note) = text_in(alloc, "note", body)? else {
+    let Some(note) = text_in("note", body) else {
         return Ok(None);
     };
     Ok(Some(Command::NotForUs(command::SetAside {
-        arch: subject.arch,
-        source: subject.source,
-        version: subject.version,
-        note,
+        arch: Text::copied(alloc, subject.arch)?,
+        source: Text::copied(alloc, subject.source)?,
+        version: Text::copied(alloc, subject.version)?,
+        note: Text::copied(alloc, note)?,
     })))
 }
 
 #[tactic(auto, unfolding(crate::specs::Commands::rebuild_in))]
 fn rebuild_in(alloc: Global, body: &Value) -> Result<Option<Command>, AllocError>
     ensures value { IfOk result (λ command. command ≡ rebuild_in (view body.now)) }
+    ensures memory { OnErr result (IsSome (rebuild_in (view body.now))) }
 {
-    let Some(subject) = subject_in(alloc, body)? else {
+    let Some(subject) = subject_in(body) else {
         return Ok(None);
     };
     let Some(number) = number_in("number", body) else {
         return Ok(None);
     };
-    let Some(message) = text_in(alloc, "message", body)? else {
+    let Some(message) = text_in("message", body) else {
         return Ok(None);
     };
     Ok(Some(Command::Rebuild(command::Rebuild {
-        arch: subject.arch,
-        source: subject.source,
-        version: subject.version,
+        arch: Text::copied(alloc, subject.arch)?,
+        source: Text::copied(alloc, subject.source)?,
+        version: Text::copied(alloc, subject.version)?,
         number,
-        message,
+        message: Text::copied(alloc, message)?,
     })))
 }
 
 #[tactic(auto, unfolding(crate::specs::Commands::build_priority_in))]
 fn build_priority_in(alloc: Global, body: &Value) -> Result<Option<Command>, AllocError>
     ensures value { IfOk result (λ command. command ≡ build_priority_in (view body.now)) }
+    ensures memory { OnErr result (IsSome (build_priority_in (view body.now))) }
 {
-    let Some(subject) = subject_in(alloc, body)? else {
+    let Some(subject) = subject_in(body) else {
         return Ok(None);
     };
     let Some(value) = integer_in("value", body) else {
         return Ok(None);
     };
     Ok(Some(Command::BuildPriority(command::BuildPriority {
-        arch: subject.arch,
-        source: subject.source,
-        version: subject.version,
+        arch: Text::copied(alloc, subject.arch)?,
+        source: Text::copied(alloc, subject.source)?,
+        version: Text::copied(alloc, subject.version)?,
         value,
     })))
 }
@@ -272,20 +281,25 @@ fn build_priority_in(alloc: Global, body: &Value) -> Result<Option<Command>, All
 #[tactic(auto, unfolding(crate::specs::Commands::report_in))]
 fn report_in(alloc: Global, body: &Value) -> Result<Option<Command>, AllocError>
     ensures value { IfOk result (λ command. command ≡ report_in (view body.now)) }
+    ensures memory { OnErr result (IsSome (report_in (view body.now))) }
 {
-    let Some(arch) = text_in(alloc, "arch", body)? else {
+    let Some(arch) = text_in("arch", body) else {
         return Ok(None);
     };
-    let Some(text) = text_in(alloc, "text", body)? else {
+    let Some(text) = text_in("text", body) else {
         return Ok(None);
     };
-    Ok(Some(Command::Report(command::Report { arch, text })))
+    Ok(Some(Command::Report(command::Report {
+        arch: Text::copied(alloc, arch)?,
+        text: Text::copied(alloc, text)?,
+    })))
 }
 
 /// The command of this kind that a body gives; `None` if a key is missing or has another kind of value.
-/// The only error is that memory ran out.
+/// The only error is that memory ran out, for a body that gives one.
 fn command_in(alloc: Global, kind: CommandKind, body: &Value) -> Result<Option<Command>, AllocError>
     ensures value { IfOk result (λ command. command ≡ command_in kind (view body.now)) }
+    ensures memory { OnErr result (IsSome (command_in kind (view body.now))) }
 {
     match kind {
         CommandKind::Next => next_in(alloc, body),
@@ -305,9 +319,25 @@ fn command_in(alloc: Global, kind: CommandKind, body: &Value) -> Result<Option<C
     }
 }
 
-/// The value that bytes write in JSON; `None` if they write none. The only error is that memory ran out.
+/// The command of this kind that a body gives. The errors are that a key is missing or has another kind of value, and, for a
+/// body that gives a command, that memory ran out.
+fn command_from(alloc: Global, kind: CommandKind, body: &Value) -> Result<Command, RequestError>
+    ensures value { GivesOr result (or_bad_body (command_in kind (view body.now))) }
+    ensures memory { result ≡ Err Memory → IsSome (command_in kind (view body.now)) }
+{
+    match command_in(alloc, kind, body) {
+        Ok(Some(command)) => Ok(command),
+        Ok(None) => Err(RequestError::Fault(Fault::BadBody)),
+        Err(_) => Err(RequestError::Memory),
+    }
+}
+
+/// The value that bytes write in JSON; `None` if they write none. The only error is that memory ran out, for bytes that
+/// are UTF-8.
 fn json_of(alloc: Global, bytes: &[u8]) -> Result<Option<Value>, AllocError>
     ensures value { IfOk result (λ value. option_map view value ≡ json_of bytes.now) }
+    ensures text { IfOk result (λ value. IfSome value (λ _. IsText bytes.now)) }
+    ensures memory { OnErr result (IsText bytes.now) }
 {
     let Ok(text) = str::from_utf8(bytes) else {
         return Ok(None);
@@ -324,8 +354,8 @@ fn json_of(alloc: Global, bytes: &[u8]) -> Result<Option<Value>, AllocError>
     }
 }
 
-/// The command of this kind that the bytes of a body give. The errors are that they give none, and that
-/// memory ran out.
+/// The command of this kind that the bytes of a body give. The errors are that they give none, and, for bytes that are
+/// UTF-8, that memory ran out.
 #[tactic(auto, unfolding(crate::specs::Commands::command_of))]
 pub(crate) fn command_of(
     alloc: Global,
@@ -333,12 +363,10 @@ pub(crate) fn command_of(
     bytes: &[u8],
 ) -> Result<Command, RequestError>
     ensures value { GivesOr result (command_of kind bytes.now) }
+    ensures memory { result ≡ Err Memory → IsText bytes.now }
 {
     let Some(value) = json_of(alloc, bytes)? else {
         return Err(RequestError::Fault(Fault::BadBody));
     };
-    match command_in(alloc, kind, &value)? {
-        Some(command) => Ok(command),
-        None => Err(RequestError::Fault(Fault::BadBody)),
-    }
+    command_from(alloc, kind, &value)
 }

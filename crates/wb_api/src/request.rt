@@ -1,13 +1,14 @@
 //! A request (RFC 9112, section 2.1), read from a stream.
-ghost use Rattle.std.specs.Prelude.{◌≡◌, ℕ, ◌≤◌, List, ◌++◌, drop, length, IfSome, map};
+ghost use Rattle.std.specs.Prelude.{◌≡◌, ℕ, ◌≤◌, List, ◌++◌, drop, false, length, IfSome, map};
 ghost use Rattle.std.specs.Io.KnownBytes.{Consumes};
 ghost use Rattle.httparse.specs.Borrowed.{header_parts};
 ghost use Rattle.httparse.specs.Grammar.{RequestHead};
 ghost use Rattle.wb_streams.specs.Streams.{Flags};
 ghost use Rattle.wb_streams.specs.Bodies.{TookLess, TookNoMore};
 ghost use Rattle.wb_streams.specs.Heads.{IsHeadAt};
-ghost use Rattle.wb_api.specs.Requests.{Answers, asked, body_asked, body_length, command_wanted};
-ghost use Rattle.wb_api.specs.Requests.{is_failed, IsRequestFront, IsWithinRequest, Means};
+ghost use Rattle.wb_api.specs.Commands.{IsText};
+ghost use Rattle.wb_api.specs.Requests.{Answers, asked, asked_in, body_asked, body_length, command_wanted};
+ghost use Rattle.wb_api.specs.Requests.{is_failed, IsRequestFront, IsWithinRequest, LacksBody, LacksMemory, LacksRest, Means};
 ghost use Rattle.wb_api.specs.Requests.{query_wanted, TakesMemory, wanted_by, wanted_from, wanted_of, WantsOr};
 ghost use Rattle.wb_api.specs.declared.request.Received.TheVariants as received;
 ghost use Rattle.wb_api.specs.Routes.{route_at};
@@ -152,7 +153,21 @@ fn wanted_of(alloc: Global, routes: &Routes, bytes: &[u8]) -> Result<Wanted, Req
     }
 }
 
-/// Reads the body of a command, of which a front may have come already, and what follows it.
+/// What the bytes of a body give.
+fn receive_command(alloc: Global, kind: CommandKind, bytes: &[u8]) -> Received
+    ensures value { Answers (asked_in kind bytes.now) result }
+    ensures memory { result ≡ received.Memory → IsText bytes.now }
+    ensures failed { is_failed result ≡ false }
+{
+    match command_of(alloc, kind, bytes) {
+        Ok(command) => Received::Asked(Request::Command(command)),
+        Err(RequestError::Fault(fault)) => Received::Refused(fault),
+        Err(RequestError::Memory) => Received::Memory,
+    }
+}
+
+/// Reads the body of a command, of which a front may have come already, and what follows it. A body that came whole is read
+/// where it stands, without memory for it.
 fn receive_body<R: Read + Drop>(
     alloc: Global,
     reader: &mut WatchedReader<R>,
@@ -166,13 +181,14 @@ fn receive_body<R: Read + Drop>(
     ensures front { result ≡ received.Failed
         → TookLess already.now length reader.old.bytes reader.new.bytes }
     ensures bound { TookNoMore already.now length reader.old.bytes reader.new.bytes }
+    ensures memory { result ≡ received.Memory → (taken : List ℕ)
+        × Consumes reader.old.bytes reader.new.bytes taken × LacksBody length already.now taken }
 {
+    if length <= already.len() {
+        return receive_command(alloc, kind, &already[..length]);
+    }
     match read_body(alloc, reader, already, length) {
-        BodyRead::Whole(body) => match command_of(alloc, kind, body.as_slice()) {
-            Ok(command) => Received::Asked(Request::Command(command)),
-            Err(RequestError::Fault(fault)) => Received::Refused(fault),
-            Err(RequestError::Memory) => Received::Memory,
-        },
+        BodyRead::Whole(body) => receive_command(alloc, kind, body.as_slice()),
         BodyRead::Cut => Received::Refused(Fault::BodyCut),
         BodyRead::Failed => Received::Failed,
         BodyRead::Memory => Received::Memory,
@@ -199,6 +215,9 @@ fn receive_rest<R: Read + Drop>(
     ensures bound { (head : RequestHead) → IsHeadAt already.now count head
         → TookNoMore (drop count already.now) (body_length (wanted_of head))
         reader.old.bytes reader.new.bytes }
+    ensures lacks { result ≡ received.Memory → (head : RequestHead) → IsHeadAt already.now count head
+        → (taken : List ℕ) × Consumes reader.old.bytes reader.new.bytes taken
+        × LacksRest (wanted_of head) (drop count already.now) taken }
 {
     match wanted_of(alloc, routes, already) {
         Ok(Wanted::Query(query)) => Received::Asked(Request::Query(query)),
@@ -213,8 +232,8 @@ fn receive_rest<R: Read + Drop>(
 /// Reads one request: a head of at most 8192 bytes and 32 fields, and for a command a body of at most
 /// 16777216 bytes. A request that a web page had its browser send is refused by its head. No byte after the request plays a part, and neither does how the bytes are cut into
 /// reads. A read that fails, also one that is interrupted, ends it, and so does the end of the input. The
-/// memory for a body is taken before the first read of it. There is no read once the request has come, or a
-/// fault of it, since the client waits for its answer then. The reads of a head take at most 8192 bytes, which
+/// memory for a body is taken before the first read of it, and a body that came with the head takes none. There is no read once the
+/// request has come, or a fault of it, since the client waits for its answer then. The reads of a head take at most 8192 bytes, which
 /// may include bytes after the request; those of a body take none after it.
 /// Source: RFC 9112; the limits, the paths and the keys are this project's own.
 pub fn read_request<R: Read + Drop>(
@@ -228,6 +247,7 @@ pub fn read_request<R: Read + Drop>(
         × Consumes reader.old.bytes reader.new.bytes seen × IsRequestFront seen }
     ensures bound { (seen : List ℕ)
         × Consumes reader.old.bytes reader.new.bytes seen × IsWithinRequest seen }
+    ensures memory { result ≡ received.Memory → LacksMemory reader.old.bytes reader.new.bytes }
 {
     let mut room = [0u8; HEAD_LIMIT];
     match read_head(reader, &mut room) {

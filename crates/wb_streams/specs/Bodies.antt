@@ -1,5 +1,5 @@
 -- The body of a request, which follows the head (RFC 9112, section 6).
-use Rattle.std.specs.Prelude.{◌≡◌, ℕ, ◌-◌, ◌<◌, ◌≤◌, Bool, true, false, List, ◌++◌, length, take, Option, ⊤}
+use Rattle.std.specs.Prelude.{◌≡◌, ℕ, ◌-◌, ◌<◌, ◌≤◌, Bool, true, false, List, [], ◌++◌, length, take, Option}
 use Rattle.std.specs.Io.KnownBytes.{Consumes, IsAtEnd}
 use Rattle.wb_streams.specs.declared.body.Filling.{Filling}
 use Rattle.wb_streams.specs.declared.body.Filling.TheVariants as filling
@@ -34,14 +34,14 @@ is_failed_fill filling.Full = false
 is_failed_fill filling.Ended = false
 is_failed_fill filling.Failed = true
 
--- what a read of a body of so many bytes took, of which some came already: the whole body, or the input ended or the reader failed before
+-- what a read of a body of so many bytes took, of which some came already: the whole body, or the input ended or the reader failed before; nothing if memory ran out
 abbrev pub TookBody : List ℕ → ℕ → Option (List ℕ) → Option (List ℕ) → BodyRead → Type 0
 TookBody already count old new (came.Whole body) = (taken : List ℕ) × Consumes old new taken
     × (count ≤ length (already ++ taken)) × (body.items ≡ take count (already ++ taken))
 TookBody already count old new came.Cut = (taken : List ℕ) × Consumes old new taken × IsAtEnd new
     × (length (already ++ taken) < count)
 TookBody already count old new came.Failed = TookLess already count old new
-TookBody already count old new came.Memory = ⊤
+TookBody already count old new came.Memory = Consumes old new []
 
 -- whether a read of a body failed
 abbrev pub is_failed_body : BodyRead → Bool

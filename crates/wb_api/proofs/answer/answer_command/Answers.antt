@@ -4,8 +4,9 @@ use Rattle.wb_step.proofs.OfficeLemmas.{reply-accepted, step-repeats}
 use Rattle.wb_step.specs.Offices.{InDoubt, Open}
 use Rattle.wb_step.specs.Step.{step}
 use Rattle.wb_api.specs.Encoding.{reply_text}
-use Rattle.wb_api.specs.Exchange.{IsCommandAnswer, response_of_answer}
-use Rattle.wb_api.proofs.ExchangeLemmas.{memory-answered, refusal-answered, refusal-leads, repeat-answered, reply-answered, said-as}
+use Rattle.wb_api.specs.Exchange.{IsCommandAnswer, over_http, response_of_answer}
+use Rattle.wb_api.proofs.ExchangeLemmas.{memory-answered, refusal-answered, refusal-leads, repeat-answered, reply-answered}
+use Rattle.wb_api.proofs.ResponseLemmas.{said-as}
 use Rattle.wb_api.proofs.answer.answer_command.Goals as goal
 
 pub returns-in-Ok-reply_json-clause-value : goal.returns-in-Ok-reply_json-clause-value
@@ -48,9 +49,9 @@ returns-clause-value g c =
     let e = c.in-Err.ensures in
     refusal-leads g.O.CarryOut.is_clean g.O.CarryOut.is_closed g.O.CarryOut.stands_at g.O.CarryOut.leaves c.args.office.now c.carry_out.new.self
     (λ before after standing. IsCommandAnswer before c.args.command.now (response after) standing) c.in-Err.refusal (InDoubt c.args.command.now)
-    (λ before clean stands is. (e.closed before clean stands (ap Err is), inr (inl (said-as before (response before) is (said before), refl))))
-    (λ before clean stands fault is. (e.store before clean stands fault (ap Err is), inr (inr (fault, said-as before (response before) is (said before), refl))))
+    (λ before clean stands is. (e.closed before clean stands (ap Err is), inr (inl (said-as over_http before (response before) is (said before), refl))))
+    (λ before clean stands fault is. (e.store before clean stands fault (ap Err is), inr (inr (fault, said-as over_http before (response before) is (said before), refl))))
     (λ before clean stands is. let wants = e.memory before clean stands (ap Err is) in
-    (wants.1, memory-answered before c.args.command.now (response before) wants.0 (said-as before (response before) is (said before))))
+    (wants.1, memory-answered before c.args.command.now (response before) wants.0 (said-as over_http before (response before) is (said before))))
     (λ before clean stands machine other. let refused = e.refused before clean stands machine other in
     (refused.1, refusal-answered before c.args.command.now c.in-Err.refusal (response before) refused.0 (said before)))

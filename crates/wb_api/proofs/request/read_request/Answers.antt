@@ -1,5 +1,5 @@
 -- What was read of the input decides what it means, whatever is left.
-use Rattle.wb_api.proofs.ReadLemmas.{front_from, within_from}
+use Rattle.wb_api.proofs.ReadLemmas.{front_from, lacks_from, within_from}
 use Rattle.wb_api.proofs.RequestLemmas.{means_head, means_large, means_malformed}
 use Rattle.std.proofs.Common.{rules, arith}
 use Rattle.wb_api.proofs.request.read_request.Goals as goal
@@ -28,3 +28,8 @@ pub returns-in-Whole-clause-bound : goal.returns-in-Whole-clause-bound
 returns-in-Whole-clause-bound g c =
     let took = c.in-Whole.ensures.value in
     within_from _ _ _ _ _ took.2 took.1 (search (rules, arith)) took.3 (c.receive_rest.ensures.bound took.2 took.3)
+
+pub returns-in-Whole-clause-memory : goal.returns-in-Whole-clause-memory
+returns-in-Whole-clause-memory g c =
+    let took = c.in-Whole.ensures.value in
+    λ lacks. lacks_from _ _ _ _ _ took.2 took.1 (search (rules, arith)) took.3 (c.receive_rest.ensures.lacks lacks took.2 took.3)

@@ -1,24 +1,18 @@
-use Rattle.std.proofs.Common.{◌∙◌, ap, Ok, sym}
-use Rattle.wb_api.specs.Commands.{command_of}
-use Rattle.wb_api.specs.Routes.{and_then}
-use Rattle.wb_api.specs.declared.request.Request.TheVariants as request
-use Rattle.wb_api.specs.declared.request.Received.TheVariants as received
-use Rattle.wb_api.proofs.RequestLemmas.{body_cut, body_whole}
+use Rattle.std.proofs.Common.{◌∙◌, arith}
+use Rattle.std.proofs.lemmas.Grind.{common_steps}
+use Rattle.wb_api.proofs.RequestLemmas.{body_cut, body_here, body_whole}
 use Rattle.wb_api.proofs.request.receive_body.Goals as goal
 
-pub returns-in-Ok-clause-value : goal.returns-in-Ok-clause-value
-returns-in-Ok-clause-value g c =
-    let took = c.in-Whole.ensures.value in
-    let given = ap (command_of c.args.kind) (sym c.as_slice.ensures.value) ∙ c.in-Ok.ensures.value in
-    body_whole c.args.reader.now.bytes _ c.args.already.now took.0 c.in-Whole.body.items c.args.kind c.args.length (received.Asked (request.Command c.in-Ok.command))
-    took.1 took.2 took.3 (ap (λ r. and_then r (λ command. Ok (request.Command command))) given)
+pub returns-then-length-already-clause-value : goal.returns-then-length-already-clause-value
+returns-then-length-already-clause-value g c =
+    body_here c.args.reader.now.bytes c.args.already.now _ c.args.kind c.args.length _ c.receive_command.ensures.value
+    c.if-length-already.true (grind (arith, common_steps))
 
-pub returns-in-Err-Fault-clause-value : goal.returns-in-Err-Fault-clause-value
-returns-in-Err-Fault-clause-value g c =
+pub returns-in-Whole-clause-value : goal.returns-in-Whole-clause-value
+returns-in-Whole-clause-value g c =
     let took = c.in-Whole.ensures.value in
-    let given = ap (command_of c.args.kind) (sym c.as_slice.ensures.value) ∙ (rw c.in-Err-Fault.field-0-is at c.in-Err-Fault.ensures.value) in
-    body_whole c.args.reader.now.bytes _ c.args.already.now took.0 c.in-Whole.body.items c.args.kind c.args.length (received.Refused c.in-Err-Fault.fault)
-    took.1 took.2 took.3 (ap (λ r. and_then r (λ command. Ok (request.Command command))) given)
+    body_whole c.args.reader.now.bytes _ c.args.already.now took.0 c.as_slice.result.now c.args.kind c.args.length _
+    took.1 took.2 (c.as_slice.ensures.value ∙ took.3) c.receive_command-in-Whole.ensures.value
 
 pub returns-in-Cut-clause-value : goal.returns-in-Cut-clause-value
 returns-in-Cut-clause-value g c =

@@ -9,7 +9,7 @@ use Rattle.wb_api.proofs.serve.exchange.Goals as goal
 pub returns-in-Nothing-clause-value : goal.returns-in-Nothing-clause-value
 returns-in-Nothing-clause-value g c = (
   received.Nothing,
-  record { value = c.in-Nothing.ensures.value; failed = c.in-Nothing.ensures.failed; front = c.in-Nothing.ensures.front; bound = c.in-Nothing.ensures.bound },
+  record { value = c.in-Nothing.ensures.value; failed = c.in-Nothing.ensures.failed; front = c.in-Nothing.ensures.front; bound = c.in-Nothing.ensures.bound; memory = c.in-Nothing.ensures.memory },
   λ _. refl,
   λ before clean stands. (before, Open, stands, (refl, refl, refl, refl)),
 )
@@ -17,7 +17,7 @@ returns-in-Nothing-clause-value g c = (
 pub returns-in-Failed-clause-value : goal.returns-in-Failed-clause-value
 returns-in-Failed-clause-value g c = (
   received.Failed,
-  record { value = c.in-Failed.ensures.value; failed = c.in-Failed.ensures.failed; front = c.in-Failed.ensures.front; bound = c.in-Failed.ensures.bound },
+  record { value = c.in-Failed.ensures.value; failed = c.in-Failed.ensures.failed; front = c.in-Failed.ensures.front; bound = c.in-Failed.ensures.bound; memory = c.in-Failed.ensures.memory },
   λ _. refl,
   λ before clean stands. (before, Open, stands, (refl, refl, refl, refl)),
 )
@@ -25,7 +25,7 @@ returns-in-Failed-clause-value g c = (
 pub returns-in-Memory-clause-value : goal.returns-in-Memory-clause-value
 returns-in-Memory-clause-value g c = (
   received.Memory,
-  record { value = c.in-Memory.ensures.value; failed = c.in-Memory.ensures.failed; front = c.in-Memory.ensures.front; bound = c.in-Memory.ensures.bound },
+  record { value = c.in-Memory.ensures.value; failed = c.in-Memory.ensures.failed; front = c.in-Memory.ensures.front; bound = c.in-Memory.ensures.bound; memory = c.in-Memory.ensures.memory },
   λ _. refl,
   λ before clean stands.
       let sent = subst (λ response. Sends response c.args.writer.now.bytes c.send.new.writer.bytes c.send.result) (c.memory_answer.ensures.value before) (c.send.ensures.value before) in
@@ -38,7 +38,7 @@ returns-in-Memory-clause-silent g c = λ silent. absurd (false≢true (sym c.sen
 pub returns-in-Refused-clause-value : goal.returns-in-Refused-clause-value
 returns-in-Refused-clause-value g c = (
   received.Refused c.in-Refused.fault,
-  record { value = c.in-Refused.ensures.value; failed = c.in-Refused.ensures.failed; front = c.in-Refused.ensures.front; bound = c.in-Refused.ensures.bound },
+  record { value = c.in-Refused.ensures.value; failed = c.in-Refused.ensures.failed; front = c.in-Refused.ensures.front; bound = c.in-Refused.ensures.bound; memory = c.in-Refused.ensures.memory },
   λ _. refl,
   λ before clean stands.
       let sent = subst (λ response. Sends response c.args.writer.now.bytes c.send-in-Refused.new.writer.bytes c.send-in-Refused.result)
@@ -52,7 +52,7 @@ returns-in-Refused-clause-silent g c = λ silent. absurd (false≢true (sym c.se
 pub returns-in-Asked-clause-value : goal.returns-in-Asked-clause-value
 returns-in-Asked-clause-value g c = (
   received.Asked c.in-Asked.request,
-  record { value = c.in-Asked.ensures.value; failed = c.in-Asked.ensures.failed; front = c.in-Asked.ensures.front; bound = c.in-Asked.ensures.bound },
+  record { value = c.in-Asked.ensures.value; failed = c.in-Asked.ensures.failed; front = c.in-Asked.ensures.front; bound = c.in-Asked.ensures.bound; memory = c.in-Asked.ensures.memory },
   λ e. absurd (false≢true (sym e)),
   c.respond.ensures.value,
 )
