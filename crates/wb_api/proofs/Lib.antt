@@ -1,6 +1,7 @@
 pub mod AcknowledgedLemmas
 pub mod EncodingLemmas
 pub mod ExchangeLemmas
+pub mod KeyLemmas
 pub mod LawLemmas
 pub mod LiteralLemmas
 pub mod OneLineLemmas

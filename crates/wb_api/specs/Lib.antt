@@ -1,6 +1,7 @@
 pub mod Commands
 pub mod Encoding
 pub mod Exchange
+pub mod Keys
 pub mod Memory
 pub mod Outcomes
 pub mod Queries

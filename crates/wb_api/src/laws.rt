@@ -1,5 +1,5 @@
 //! Laws of the definitions, each on a function with nothing to run.
-ghost use Rattle.std.specs.Prelude.{ℕ, ◌<◌, List, [], ◌∷◌, get_or, ◌≡◌, ◌++◌, pos, neg_ℤ, codes, map, true, None, Some, Ok, Err};
+ghost use Rattle.std.specs.Prelude.{ℕ, ◌<◌, List, [], ◌∷◌, get_or, ◌≡◌, ◌++◌, pos, neg_ℤ, codes, is_some, map, true, None, Some, Ok, Err};
 ghost use Rattle.deb_text.specs.Lines.{IsOneLine};
 ghost use Rattle.wb_states.specs.declared.refusal.Refusal.{Refusal as AnyRefusal};
 ghost use Rattle.wb_states.specs.declared.reply.Reply.{Reply as AnyReply};
@@ -9,7 +9,10 @@ ghost use Rattle.wb_api.specs.Encoding.{reply_text, refusal_text, memory_text, l
 ghost use Rattle.httparse.specs.Grammar.{RequestHead};
 ghost use Rattle.httparse.specs.Spans.{name_and_value};
 ghost use Rattle.wb_states.specs.Forms.{Attempted, BuildPriority, Report};
-ghost use Rattle.wb_api.specs.Commands.{value_in};
+ghost use Rattle.serde_json.specs.Data.{Data};
+ghost use Rattle.wb_api.specs.Commands.{command_in, value_in};
+ghost use Rattle.wb_api.specs.Keys.{has_keys, keys_of};
+ghost use Rattle.wb_api.specs.declared.route.CommandKind.{CommandKind as AnyKind};
 ghost use Rattle.wb_api.specs.Requests.{Answers, asked, got, IsHead, Means, posted, TakesMemory};
 ghost use Rattle.wb_api.specs.Requests.{field, got_with, posted_with, wanted_of};
 ghost use Rattle.wb_streams.specs.Fields.{is_from_browser};
@@ -111,6 +114,11 @@ pub fn posts_are_commands()
     ensures no_lines { posted (codes "/v1/report") (codes "{\"text\":\"\",\"arch\":\"amd64\"}")
         ≡ Ok (Command (Report (codes "amd64") (codes ""))) }
     ensures no_text { posted (codes "/v1/report") (codes "{\"arch\":\"amd64\"}") ≡ Err BadBody }
+{}
+
+/// A body gives a command exactly if it has each key of the table for its path, with what that has to have.
+pub fn commands_are_read_by_their_keys()
+    ensures value { (kind : AnyKind) (body : Data) → is_some (command_in kind body) ≡ has_keys (keys_of kind) body }
 {}
 
 /// A request that a web page had its browser send asks for nothing, whatever its method, its target and its body are: one

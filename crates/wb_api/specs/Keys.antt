@@ -1,0 +1,59 @@
+-- The keys of the objects of commands (RFC 8259), by which the body of a request is read: one table.
+use Rattle.std.specs.Prelude.{ℕ, List, [], ◌∷◌, ◌++◌, Bool, true, ◌&&◌, is_some, codes}
+use Rattle.serde_json.specs.Data.{Data}
+use Rattle.wb_api.specs.Commands.{integer_in, number_in, number_or_none_in, text_in}
+use Rattle.wb_api.specs.declared.route.CommandKind.{CommandKind}
+use Rattle.wb_api.specs.declared.route.CommandKind.TheVariants.{Next, Take, Built, Uploaded, Waits, PutBack, Attempted, GiveBack, DepWait, Fail, NotForUs, Rebuild, BuildPriority, Report}
+
+-- what a key has: a text, a whole number, a whole number that may be null or missing, or an integer
+pub data Shape : Type 0 where
+  Text : Shape
+  Number : Shape
+  NumberOrNull : Shape
+  Integer : Shape
+
+-- a key of the object of a command, with what it has
+pub record Key : Type 0 where
+  pub name : List ℕ
+  pub shape : Shape
+
+-- a key that has a text
+abbrev pub text : List ℕ → Key
+text name = record { name = name; shape = Text }
+
+-- a key that has a whole number
+abbrev pub whole : List ℕ → Key
+whole name = record { name = name; shape = Number }
+
+-- the keys that name a source package on an architecture, in this version
+abbrev pub named : List Key
+named = text (codes "arch") ∷ text (codes "source") ∷ text (codes "version") ∷ []
+
+-- the table: the keys of each command, in the order in which they are read
+abbrev pub keys_of : CommandKind → List Key
+keys_of Next = text (codes "arch") ∷ text (codes "builder") ∷ record { name = codes "after"; shape = NumberOrNull } ∷ []
+keys_of Take = named ++ text (codes "builder") ∷ []
+keys_of Built = whole (codes "take") ∷ []
+keys_of Uploaded = whole (codes "take") ∷ []
+keys_of Waits = whole (codes "take") ∷ text (codes "relations") ∷ []
+keys_of PutBack = whole (codes "take") ∷ []
+keys_of Attempted = whole (codes "take") ∷ text (codes "reason") ∷ []
+keys_of GiveBack = named
+keys_of DepWait = named ++ text (codes "relations") ∷ []
+keys_of Fail = named ++ text (codes "note") ∷ []
+keys_of NotForUs = named ++ text (codes "note") ∷ []
+keys_of Rebuild = named ++ whole (codes "number") ∷ text (codes "message") ∷ []
+keys_of BuildPriority = named ++ record { name = codes "value"; shape = Integer } ∷ []
+keys_of Report = text (codes "arch") ∷ text (codes "text") ∷ []
+
+-- whether a body has under a key of this name what it has to have
+abbrev pub has_shape : Shape → List ℕ → Data → Bool
+has_shape Text name body = is_some (text_in name body)
+has_shape Number name body = is_some (number_in name body)
+has_shape NumberOrNull name body = is_some (number_or_none_in name body)
+has_shape Integer name body = is_some (integer_in name body)
+
+-- whether a body has all keys, each with what it has to have
+abbrev pub has_keys : List Key → Data → Bool
+has_keys [] body = true
+has_keys (key ∷ keys) body = has_shape key.shape key.name body && has_keys keys body
