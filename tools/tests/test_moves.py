@@ -1,23 +1,20 @@
 #!/usr/bin/env python3
 """Tests of the table of moves: each of the 110 pairs of a state and a move, as stated here by hand, is held to the
 table of docs/PROTOCOL.md, to the definition in crates/wb_states/specs/Moves.antt, and to what the program answers; and
-so are the versions of builds. Prints 'ok NAME' or 'failed NAME: why' for each, and how many passed at the end; the
-status is 0 only where all passed.
+so are the versions of builds.
 
     tools/tests/test_moves.py [NAME..]     these tests, or all
 
 From the environment: WB is the program, ./wb of this repository where it is not set.
 """
-import json
-import os
 import re
-import subprocess
 import sys
 import tempfile
 from pathlib import Path
 
-ROOT = Path(__file__).resolve().parents[2]
-WB = os.path.abspath(os.environ.get("WB", ROOT / "wb"))
+import harness
+from harness import ROOT, expect, main
+
 STATES = (
     "Needs-Build Building Built Uploaded Installed Dep-Wait BD-Uninstallable Failed Not-For-Us Build-Attempted".split()
 )
@@ -91,15 +88,6 @@ LINES = {
     "not-for-us": "not-for-us amd64 hello 1.0 no",
     "rebuild": "rebuild amd64 hello 1.0 1 new",
 }
-
-
-class Failure(Exception):
-    """Why a test failed."""
-
-
-def expect(holds, why):
-    if not holds:
-        raise Failure(why)
 
 
 def difference(found):
@@ -205,10 +193,8 @@ def answers_of(lines):
     with tempfile.TemporaryDirectory() as folder:
         for name, text in FILES.items():
             (Path(folder) / name).write_text(text, encoding="utf-8")
-        text = "".join(f"{line}\n" for line in lines).encode()
-        done = subprocess.run([WB, "run"], cwd=folder, input=text, capture_output=True, timeout=60, check=False)
-    found = [json.loads(line) for line in done.stdout.splitlines()]
-    expect(len(found) == len(lines), f"{len(lines)} lines have {len(found)} answers: {done.stderr[-200:]!r}")
+        found = harness.answers_of(folder, lines, None)
+    expect(len(found) == len(lines), f"{len(lines)} lines have {len(found)} answers")
     return found
 
 
@@ -245,34 +231,7 @@ def versions_of_builds():
         )
 
 
-TESTS = {
-    "the-page": the_page,
-    "the-definition": the_definition,
-    "the-program": the_program,
-    "versions-of-builds": versions_of_builds,
-}
-
-
-def main(names):
-    if "--help" in names or "-h" in names:
-        print(__doc__.strip())
-        return 0
-    unknown = [name for name in names if name not in TESTS]
-    if unknown:
-        print(f"test_moves.py: there is no test {unknown[0]}", file=sys.stderr)
-        return 2
-    passed = 0
-    names = names or list(TESTS)
-    for name in names:
-        try:
-            TESTS[name]()
-            print(f"ok {name}", flush=True)
-            passed += 1
-        except (Failure, OSError, ValueError, subprocess.SubprocessError) as why:
-            print(f"failed {name}: {why}", flush=True)
-    print(f"{passed} of {len(names)} passed")
-    return 0 if passed == len(names) else 1
-
+TESTS = [the_page, the_definition, the_program, versions_of_builds]
 
 if __name__ == "__main__":
-    sys.exit(main(sys.argv[1:]))
+    sys.exit(main(TESTS))
