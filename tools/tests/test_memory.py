@@ -1,7 +1,9 @@
 #!/usr/bin/env python3
 """Tests that want of memory is never made up: no code makes an `AllocError`, an `AllocFailed`, an `OutOfMemory` or a
-`Memory` of a fault or a refusal but where a growth was refused. And that no code names the error of a formatter,
-`fmt::Error`, so that each failure to print a fault is one of the writer that it is printed to.
+`Memory` of a fault or a refusal but where a growth was refused, and none leaves an accepted command without its answer
+but where there was no memory for that: it makes no `Mute`, no `Cause::Reply` and no `None` in place of an answer. And
+that no code names the error of a formatter, `fmt::Error`, so that each failure to print a fault is one of the writer
+that it is printed to.
 
 It reads every source of crates/*/src, its tests aside. Of an occurrence of these names, these are no making:
 
@@ -11,21 +13,31 @@ It reads every source of crates/*/src, its tests aside. Of an occurrence of thes
 - what an arm of a `match` answers whose pattern asks for want of memory itself, in each alternative: it hands that on.
 
 A constant whose value has such a name is such a name too, and so is a function whose listed making is the answer
-itself, such as `memory_answer`: its callers are looked at. `Cause::Reply` and `Cause::Room`, for which a run stops, are
-such names. The makings that are left are those of tools/tests/memory_exceptions, each with its reason. A making that is
-not listed there, and a line there that has no making any more, are amiss.
+itself, such as `memory_answer`: its callers are looked at. `Mute`, with which an exchange ends, and `Cause::Reply` and
+`Cause::Room`, for which a run stops, are such names; so is, in a function that gives an `Option` of an `HttpAnswer` or
+of a `LineAnswer`, each `None`, each `?`, and each call of a method of which a `None` may come. An import of a cause, or
+one under another name, is a making too. The makings that are left are those of tools/tests/memory_exceptions, each with
+its reason. A making that is not listed there, and a line there that has no making any more, are amiss.
+
+It does not see a growth that is asked for too much on purpose, a listed making whose condition is another than its
+reason says, and what a function of another type gives to one of these.
 """
 import glob
 import os
 import re
 import sys
-from dataclasses import dataclass, field
+from dataclasses import dataclass, field, replace
 
 from harness import ROOT, expect_none, main
 
-NAMES = frozenset({"AllocError", "AllocFailed", "OutOfMemory", "Memory"})
+NAMES = frozenset({"AllocError", "AllocFailed", "OutOfMemory", "Memory", "Mute"})
 CAUSES = frozenset({"Reply", "Room"})  # of these a run stops for want of memory, where `Cause::` comes before
-VARIANTS = frozenset({"OutOfMemory", "Memory"})  # without a path, a pattern of this name might be a new variable
+VARIANTS = frozenset({"OutOfMemory", "Memory", "Mute"})  # without a path, such a pattern might be a new variable
+TOLD = frozenset({"HttpAnswer", "LineAnswer"})  # of such an answer there is none if there is no memory for a reply
+EMPTY = frozenset(  # methods of which a `None` may come without that word
+    "and and_then checked_add checked_sub cloned copied err filter first get last map next ok or pop take then "
+    "then_some xor zip".split()
+)
 ANSWERS = frozenset(
     {"memory_answer"}
 )  # functions that make the answer for their callers, which are looked at in their place
@@ -102,6 +114,16 @@ def find(tree, start, *texts):
     return next((n for n in range(start, len(tree)) if tree[n].text in texts), len(tree))
 
 
+@dataclass(frozen=True)
+class Place:
+    """Where a part of a source stands: in which function, whether it may make want of memory, and whether a `None` of
+    that function says that there is no memory for a reply."""
+
+    function: str = "-"
+    is_allowed: bool = False
+    is_told: bool = False
+
+
 class Scan:
     """Collects the makings of one source: their functions and lines."""
 
@@ -111,7 +133,9 @@ class Scan:
         self.makings = []
 
     def has_name(self, tree):
-        return any(it in self.names for it in words_in(tree))
+        words = list(words_in(tree))
+        causes = (before == "Cause" and after in CAUSES for before, after in zip(words, words[2:]))
+        return any(it in self.names for it in words) or any(causes)
 
     def asks_for_it(self, pattern):
         """Whether each alternative of a pattern names want of memory."""
@@ -124,7 +148,7 @@ class Scan:
             before = word
         return all(pieces)
 
-    def walk(self, tree, function, is_allowed):
+    def walk(self, tree, place):
         """Looks at items, statements and expressions."""
         at, is_test = 0, False
         while at < len(tree):
@@ -137,7 +161,7 @@ class Scan:
             elif is_test:
                 at, is_test = self.end_of_item(tree, at), False
             else:
-                at = self.step(tree, at, function, is_allowed)
+                at = self.step(tree, at, place)
 
     def end_of_item(self, tree, at):
         """The place after an item: after its first brace that is no contract's, or its semicolon."""
@@ -149,16 +173,15 @@ class Scan:
             at += 1
         return at + 1
 
-    def step(self, tree, at, function, is_allowed):
+    def step(self, tree, at, place):
         """Looks at what begins here; gives the place after what it has looked at."""
         word = tree[at].text
         if word == "ghost":
             return at + 2 if tree[at + 1 :] and tree[at + 1].text == "{" else find(tree, at, ";") + 1
         if word == "use":
             end = find(tree, at, ";")
-            words = list(words_in(tree[at:end]))
-            if any(a in self.names and b == "as" for a, b in zip(words, words[1:])):
-                self.makings.append((function, tree[at].line))
+            if self.is_hidden_by(list(words_in(tree[at:end]))):
+                self.makings.append((place.function, tree[at].line))
             return end + 1
         if word in ("struct", "enum", "type"):
             return self.end_of_item(tree, at)
@@ -169,14 +192,15 @@ class Scan:
             return end + 1
         if word in ("fn", "impl", "trait", "mod"):
             end = self.end_of_item(tree, at)
-            if word == "fn" and tree[at + 1].text != "(":
-                function = tree[at + 1].text
             header = list(words_in(tree[at : end - 1]))
+            if word == "fn" and tree[at + 1].text != "(":
+                place = replace(place, function=tree[at + 1].text, is_told=gives_told(header))
             is_from = word == "impl" and any(
                 a == "From" and b == "<" and c in ("AllocError", "AllocFailed")
                 for a, b, c in zip(header, header[1:], header[2:])
             )
-            self.walk(tree[end - 1].inside if end <= len(tree) else [], function, is_allowed or is_from)
+            place = replace(place, is_allowed=place.is_allowed or is_from)
+            self.walk(tree[end - 1].inside if end <= len(tree) else [], place)
             return end
         if word == "let":
             return find(tree, at, "=", ";", "else")
@@ -184,23 +208,26 @@ class Scan:
             return find(tree, at, "in")
         if word == "match":
             end = find(tree, at, "{")
-            self.walk(tree[at + 1 : end], function, is_allowed)
-            self.arms(tree[end].inside if end < len(tree) else [], function, is_allowed)
+            self.walk(tree[at + 1 : end], place)
+            self.arms(tree[end].inside if end < len(tree) else [], place)
             return end + 1
         if word == "matches" and [it.text for it in tree[at + 1 : at + 3]] == ["!", "("]:
             inside = tree[at + 2].inside
             pattern = find(inside, 0, ",")
-            self.walk(inside[:pattern], function, is_allowed)
-            self.walk(inside[find(inside, pattern, "if") :], function, is_allowed)
+            self.walk(inside[:pattern], place)
+            self.walk(inside[find(inside, pattern, "if") :], place)
             return at + 3
-        if (word in self.names or self.is_cause(tree, at)) and not is_allowed and not self.is_used(tree, at):
-            self.makings.append((function, tree[at].line))
-        self.walk(tree[at].inside, function, is_allowed)
+        is_named = word in self.names or is_cause(tree, at) or place.is_told and is_empty(tree, at)
+        if is_named and not place.is_allowed and not self.is_used(tree, at):
+            self.makings.append((place.function, tree[at].line))
+        self.walk(tree[at].inside, place)
         return at + 1
 
-    def is_cause(self, tree, at):
-        """Whether a cause is named here for which a run stops for want of memory."""
-        return tree[at].text in CAUSES and [it.text for it in tree[max(0, at - 2) : at]] == ["Cause", "::"]
+    def is_hidden_by(self, words):
+        """Whether an import of these words gives a name of want of memory another name, or a cause none of its own."""
+        renamed = any(a in self.names | {"Cause"} and b == "as" for a, b in zip(words, words[1:]))
+        after = words[words.index("Cause") + 1 :] if "Cause" in words else []
+        return renamed or after[:1] == ["::"] and bool((CAUSES | {"*"}) & set(after))
 
     def is_used(self, tree, at):
         """Whether the name here is a type among expressions, or is only compared."""
@@ -213,19 +240,39 @@ class Scan:
         is_parameter = before == ":" and after == "|"
         return is_type or is_parameter or before in ("==", "!=") or after in ("==", "!=")
 
-    def arms(self, tree, function, is_allowed):
+    def arms(self, tree, place):
         """Looks at the arms of a `match`: at their guards, and at what they answer."""
         at = 0
         while at < len(tree):
             arrow = find(tree, at, "=>")
             guard = find(tree[:arrow], at, "if")
-            self.walk(tree[guard + 1 : arrow], function, is_allowed)
+            self.walk(tree[guard + 1 : arrow], place)
             if tree[arrow + 1 : arrow + 2] and tree[arrow + 1].text == "{":
                 end = arrow + 2
             else:
                 end = find(tree, arrow, ",")
-            self.walk(tree[arrow + 1 : end], function, is_allowed or self.asks_for_it(tree[at:guard]))
+            is_allowed = place.is_allowed or self.asks_for_it(tree[at:guard])
+            self.walk(tree[arrow + 1 : end], replace(place, is_allowed=is_allowed))
             at = end + 1 if tree[end : end + 1] and tree[end].text == "," else end
+
+
+def is_cause(tree, at):
+    """Whether a cause is named here for which a run stops for want of memory."""
+    before = [it.text for it in tree[max(0, at - 2) : at]]
+    return tree[at].text in CAUSES and before in (["Cause", "::"], ["Self", "::"])
+
+
+def gives_told(header):
+    """Whether a function of this header gives an answer, or none if there is no memory for it."""
+    parts = zip(header, header[1:], header[2:], header[3:])
+    return any(part[:3] == ("->", "Option", "<") and part[3] in TOLD for part in parts)
+
+
+def is_empty(tree, at):
+    """Whether a `None` is made here, or may come of what is called here."""
+    before = tree[at - 1].text if at else ""
+    after = tree[at + 1].text if at + 1 < len(tree) else ""
+    return tree[at].text in ("None", "?") or before == "." and tree[at].text in EMPTY and after in ("(", "::")
 
 
 def is_of_tests(attribute):
@@ -242,7 +289,7 @@ def makings_in(sources, answers=frozenset()):
     while True:
         for path, tree in trees.items():
             found[path] = Scan(names)
-            found[path].walk(tree, "-", False)
+            found[path].walk(tree, Place())
         more = names.union(*(it.constants for it in found.values()))
         if more == names:
             return [(path, *making) for path, scan in found.items() for making in scan.makings]
@@ -310,6 +357,38 @@ PLANTED = [
     ("fn f() -> RunEnd { RunEnd::Stopped(Cause::Room) }", 1),
     ("fn f(x: Option<u8>) -> R { let Some(y) = x else { return Err(Cause::Reply); }; Ok(y) }", 1),
     ("macro_rules! full { () => { Refusal::Memory }; }", 1),
+    # an accepted command without its answer
+    ("fn f() -> Served { Served::Mute }", 1),
+    ("fn f(x: Option<A>) -> Served { match x { Some(y) => send(y), None => Served::Mute } }", 1),
+    ("fn f(x: &Request) -> Served { if let Request::Command(_) = x { return Served::Mute; } g(x) }", 1),
+    ("use crate::Served::*; fn f() -> Served { Mute }", 1),
+    ("use crate::Served::Mute as Silent; fn f() -> Served { Silent }", 1),
+    ("fn f(x: V) -> Served { match x { Served::Mute | Served::Nothing => Served::Mute, y => y } }", 1),
+    ("fn f(x: &Command) -> Result<u8, Cause> { if x.is_merge() { Err(Cause::Reply) } else { Ok(0) } }", 1),
+    ("fn f(x: R) -> Turn { match x { Err(Cause::Write) => Turn::Stop(Cause::Reply), _ => Turn::More(0) } }", 1),
+    ("use crate::Cause::Reply; fn f() -> Result<u8, Cause> { Err(Reply) }", 1),
+    ("use crate::message::{Cause::{self, Reply}, Message}; fn f() -> Result<u8, Cause> { Err(Reply) }", 1),
+    ("use crate::Cause::*; fn f() -> Result<u8, Cause> { Err(Reply) }", 1),
+    ("use crate::Cause as Why; fn f() -> Result<u8, Why> { Err(Why::Reply) }", 1),
+    ("impl Cause { fn f() -> Cause { Self::Reply } }", 1),
+    ("const NONE: Cause = Cause::Reply; fn f() -> Result<u8, Cause> { Err(NONE) }", 1),
+    ("fn f(x: R) -> Option<HttpAnswer> { match x { Ok(Reply::Done(_)) => None, Ok(y) => Some(g(y)) } }", 1),
+    ("fn f(x: R) -> Option<LineAnswer> { if x.is_err() { return None; } Some(g(x)) }", 1),
+    (
+        "pub(crate) fn f<O: CarryOut>(\n    office: &mut O,\n) -> Option<LineAnswer>\n    ensures memory { result ≡ "
+        "None → IsFull office.old }\n{\n    let told = None;\n    told\n}",
+        1,
+    ),
+    ("fn f(x: Option<u8>) -> Option<LineAnswer> { let y = x?; Some(g(y)) }", 1),
+    ("fn f(x: R) -> Option<LineAnswer> { let Ok(y) = x else { return None }; Some(g(y)) }", 1),
+    ("fn f(x: R) -> Option<HttpAnswer> { reply(x).ok().map(g) }", 2),
+    ("fn f(x: u8) -> Option<HttpAnswer> { (x < 3).then(|| g(x)) }", 1),
+    ("fn f(x: u8) -> Option<HttpAnswer> { Some(g(x)).filter(|it| it.status == 200) }", 1),
+    (
+        "fn f() -> Option<LineAnswer> { match g() { Err(_) => None, Ok(it) if it == None => None, Ok(it) => Some(it) "
+        "} }",
+        2,
+    ),
     ("#[cfg(test)] fn g() -> Refusal { Refusal::Memory } fn f() -> Refusal { Refusal::Memory }", 1),
     ("#[tactic(auto)] fn f(x: u8) -> Refusal ensures value { IfOk result (λ r. r ≡ Memory) } { Refusal::Memory }", 1),
     # no makings
@@ -343,6 +422,15 @@ PLANTED = [
         'Reply { Reply::Done(1) }',
         0,
     ),
+    ("fn f(x: Served) -> &str { match x { Served::Mute => \"mute\", _ => \"\" } }", 0),
+    ("fn f(x: Served) -> bool { matches!(x, Served::Mute) || x != Served::Mute }", 0),
+    ("fn f(x: Served) -> Told { match x { Served::Mute => told(Served::Mute), _ => Told::Rest } }", 0),
+    ("pub enum Served { Nothing, Mute } use crate::{Cause, Served}; use crate::message::{Cause, Message};", 0),
+    ("use wb_states::Reply; fn f(x: V) -> Result<Reply, Cause> { Err(Cause::Write) }", 0),
+    ("fn f(x: Option<u8>) -> Option<LineAnswer> { match x { None => Some(g(0)), Some(y) => Some(g(y)) } }", 0),
+    ("fn f(x: &X) -> Option<LineAnswer> { if let None = x.y { g(x) } else { h(x.map) } }", 0),
+    ("fn f(x: R) -> Option<LineAnswer> { match x { Ok(y) => Some(g(y)), Err(Refusal::Memory) => None } }", 0),
+    ("fn f(x: R) -> Option<Command> { x.ok().map(g) } fn g(x: Option<HttpAnswer>) -> Option<u8> { None }", 0),
     ("#[cfg(test)] mod tests { fn f() -> Refusal { Refusal::Memory } }", 0),
     ("#[test] fn f(rt: HostRuntime) -> R { assert_eq!(rt; g(), Err(Refusal::Memory)); Ok(()) }", 0),
     ('// Refusal::Memory\n/* Err(AllocError) /* inner */ Memory */ fn f() -> &str { "Refusal::Memory \\" Memory" }', 0),
@@ -385,7 +473,7 @@ def made():
             if (path, function) in left:
                 left.remove((path, function))
             else:
-                yield f"{path}:{line}: {function} makes want of memory"
+                yield f"{path}:{line}: {function} makes want of memory, or gives no answer for it"
     for place in left:
         yield f"{EXCEPTIONS}: {' '.join(place)} makes none any more"
 
