@@ -6,6 +6,7 @@
 import contextlib
 import functools
 import re
+import runpy
 import shutil
 import sqlite3
 import subprocess
@@ -131,6 +132,58 @@ def claims_that_do_not_fit_are_found(copy):
     shutil.copy(copy / STEP, copy / "docs/proved/wb_none.md")
     said = "\n".join(said_by(*scan)[1])
     expect("wb_none.md is the page of no crate" in said, f"a page of no crate is not found: {said[:500]}")
+
+
+# A crate's sources before and after, with what has to be said of them.
+BEFORE = """\
+pub trait Tables { ghost kept : { Self → Type 0 } = { λ _. ⊤ };
+    fn put(&mut self, row: [u8; 2])
+        requires fits { row.now.size < 2 }
+        ensures ok { kept self.new }; }
+impl<S: Fn(u8) -> u8 + Drop> Store<S> {
+    pub fn open(&self) -> Result<u8, Fault>
+        // a comment { of no clause
+        ensures value { IfOk result (λ n. n ≡ codes "{") } ensures err { ⊤ } { f(self) }
+    pub fn same() -> u8 ensures value { result   ≡
+        1 } { 1 }
+    pub(crate) fn within() -> u8 ensures value { result ≡ 1 } { 1 }
+    pub fn put(&mut self) ensures others { ⊤ } {} }
+pub fn gone() -> u8 ensures value { result ≡ 0 } { 0 }
+#[cfg(test)] mod tests { pub fn seven() ensures value { ⊤ } {} }
+"""
+AFTER = """\
+impl<S: Fn(u8) -> u8 + Drop> Store<S> {
+    pub fn same() -> u8 ensures value { result ≡ 1 } { 1 }
+    pub fn open(&self) -> Result<u8, Fault>
+        requires idle { ⊤ } ensures value { IfOk result (λ n. n ≡ codes "}") } { f(self) } }
+pub trait Tables { ghost kept : { Self → Type 0 } = { λ it. HasRows it };
+    fn put(&mut self, row: [u8; 2]) ensures ok { kept self.new }; }
+impl<S> Tables for Store<S> { fn put(&mut self, row: [u8; 2]) {} }
+fn gone() -> u8 ensures value { result ≡ 0 } { 0 }
+"""
+COMPARED = """\
+store gone: no longer public
+    went: ensures value
+store Store::open
+    went: ensures err
+    came: requires idle
+    changed: ensures value
+store Store::put: a method of Tables
+    went: ensures others
+store Tables
+    changed: ghost kept
+store Tables::put
+    went: requires fits
+4 clauses went, 1 came, 2 changed, 2 are as they were
+"""
+
+
+def clauses_that_went_are_found():
+    """The comparison of two revisions says which clauses of public functions went, came, or are others."""
+    script = runpy.run_path(str(DEV / "compare_clauses"))
+    old, new = (script["functions_of"]([("crates/store/src/lib.rt", text)]) for text in (BEFORE, AFTER))
+    said = "".join(f"{line}\n" for line in script["report"](old, new, False))
+    expect(said == COMPARED, f"it says {said}")
 
 
 # ---- the README
@@ -305,8 +358,8 @@ def faults_speak_of_each_answer():
 TESTS = [
     wrong_bodies_can_be_applied, wrong_bodies_stand_once, definitions_are_said_and_cited,
     definitions_that_are_amiss_are_found, laws_in_documents_exist,
-    claims_and_contracts_fit, claims_that_do_not_fit_are_found, readme_shows_the_stored_run, readme_names_the_kit,
-    readme_of_tools_names_each_file,
+    claims_and_contracts_fit, claims_that_do_not_fit_are_found, clauses_that_went_are_found,
+    readme_shows_the_stored_run, readme_names_the_kit, readme_of_tools_names_each_file,
     link_to_pages, link_to_headings, sources_of_the_architecture_exist, schema_has_the_tables,
     schema_has_the_numbers, deviations_name_definitions, faults_speak_of_each_answer,
 ]
