@@ -1,5 +1,5 @@
-"""Pages of the manual for tools/dev/make-deb, of the commands on lists: made of what their --help says, so that both
-say the same."""
+"""Pages of the manual for tools/dev/make-deb, of the commands on lists and of requests: made of what their --help says,
+so that both say the same."""
 import re
 from collections.abc import Iterator
 
@@ -10,6 +10,7 @@ NAMES = {
     "prepare-lists": "prepare lists of an archive for a merge",
     "report-from-dose": "ask dose which source packages can be built",
     "rebuild-from-ben": "make lines for the rebuilds of a transition",
+    "wb-requests": "send the request lines of a release team to a wanna-build office",
 }
 END = """\
 .SH AUTHORS
@@ -30,11 +31,16 @@ def escaped(text: str) -> str:
 
 
 def paragraphs(text: str) -> Iterator[str]:
-    """Paragraphs; a line that begins with a hyphen is an item of a list."""
+    """Paragraphs; a line that begins with a hyphen is an item of a list, and an indented paragraph is shown as it
+    stands."""
     for number, part in enumerate(re.split(r"\n\s*\n", text.strip("\n"))):
         if number:
             yield ".PP"
-        for line in part.splitlines():
+        lines = part.splitlines()
+        if all(line.startswith("  ") for line in lines):
+            yield from (".EX", *(escaped(line.strip()) for line in lines), ".EE")
+            continue
+        for line in lines:
             if line.startswith("- "):
                 yield ".IP \\(bu 2"
             yield escaped(line.removeprefix("- ").strip())

@@ -311,6 +311,16 @@ def completion_of_wanna_build(folder):
     expect(completed("wanna-build", "--settings", f"{folder}/a") == [f"{folder}/a file"], "no settings are offered")
 
 
+def completion_of_wb_requests(folder):
+    said, _ = call([BIN / "wb-requests", "--help"])
+    options = sorted(set(re.findall(r"^  (?:-h, )?(--[a-z]+)", said, re.M)))
+    found = completed("wb-requests", "-")
+    expect(len(options) == 7 and found == options, f"after wb-requests: {found}, and the script has {options}")
+    (folder / "some lines").write_text("")
+    expect(completed("wb-requests", f"{folder}/so") == [f"{folder}/some lines"], "no file of lines is offered")
+    expect(completed("wb-requests", "--arch", "") == [], "something is offered for an architecture")
+
+
 # ---- the package and the release
 
 
@@ -553,6 +563,7 @@ TESTS = [
     page_of_the_office_has_each_command, pages_of_the_tables_have_each_option, page_of_history_has_each_question,
     page_of_wanna_build_has_each_word, pages_are_formatted,
     completion_has_each_subcommand, completion_has_states_of_wb_table, completion_of_wanna_build,
+    completion_of_wb_requests,
     is_the_same_again, runs_the_five_lines, has_its_scripts,
     pages_of_lists_are_those_of_their_help, ends_what_a_file_names, has_all_pages,
     of_another_version_is_not_made,

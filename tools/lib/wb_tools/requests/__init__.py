@@ -1,0 +1,1 @@
+"""The request lines of a release team, for tools/bin/wb-requests."""
