@@ -1,6 +1,7 @@
--- The keys of the objects of commands (RFC 8259), by which the body of a request is read: one table.
+-- The keys of the objects of commands (RFC 8259): one table for the body of a request, which is read by it, and for the line of a journal, which has these and the
+-- name of the command.
 use Rattle.std.specs.Prelude.{ℕ, List, [], ◌∷◌, ◌++◌, Bool, true, ◌&&◌, is_some, codes}
-use Rattle.serde_json.specs.Data.{Data}
+use Rattle.serde_json.specs.Data.{Data, Members, member, no_members, null, object, put, array, boolean, number, string}
 use Rattle.wb_api.specs.Commands.{integer_in, number_in, number_or_none_in, text_in}
 use Rattle.wb_api.specs.declared.route.CommandKind.{CommandKind}
 use Rattle.wb_api.specs.declared.route.CommandKind.TheVariants.{Next, Take, Built, Uploaded, Waits, PutBack, Attempted, GiveBack, DepWait, Fail, NotForUs, Rebuild, BuildPriority, Report}
@@ -57,3 +58,26 @@ has_shape Integer name body = is_some (integer_in name body)
 abbrev pub has_keys : List Key → Data → Bool
 has_keys [] body = true
 has_keys (key ∷ keys) body = has_shape key.shape key.name body && has_keys keys body
+
+-- members with these keys and nothing under them, each at its place
+abbrev pub places : List Key → Members
+places [] = no_members
+places (key ∷ keys) = put key.name null (places keys)
+
+-- the names of members, in their order
+abbrev pub names_of_members : Members → List (List ℕ)
+names_of_members no_members = []
+names_of_members (member name value members) = name ∷ names_of_members members
+
+-- the names of the keys of an object, in their order
+abbrev pub names_in : Data → List (List ℕ)
+names_in null = []
+names_in (boolean b) = []
+names_in (number n) = []
+names_in (string s) = []
+names_in (array items) = []
+names_in (object members) = names_of_members members
+
+-- the names of the keys of the line of a command: those of the table, and that of the command, in byte order
+abbrev pub names_of_entry : CommandKind → List (List ℕ)
+names_of_entry kind = names_of_members (put (codes "command") null (places (keys_of kind)))

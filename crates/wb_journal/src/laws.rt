@@ -1,6 +1,7 @@
 //! What holds of the lines of a journal. The function runs nothing: its contract is proved.
-ghost use Rattle.std.specs.Prelude.{◌≡◌, ℕ, ℤ, List, Option, Some};
+ghost use Rattle.std.specs.Prelude.{◌≡◌, ◌<◌, ◌^◌, ℕ, ℤ, List, Option, Some, negsuc, pos};
 ghost use Rattle.wb_api.specs.Commands.{command_in};
+ghost use Rattle.wb_api.specs.Keys.{names_in, names_of_entry};
 ghost use Rattle.wb_api.specs.declared.route.CommandKind.TheVariants as kind;
 ghost use Rattle.wb_journal.specs.Commands.{value_of_command};
 ghost use Rattle.wb_states.specs.Forms.{Attempted, BuildPriority, Built, DepWait, Fail, GiveBack, Next, NotForUs, PutBack, Rebuild};
@@ -38,4 +39,42 @@ pub fn entries_are_bodies_of_requests()
     ensures rebuild { (arch source version : List ℕ) (number : ℕ) (message : List ℕ)
         → command_in kind.Rebuild (value_of_command (Rebuild arch source version number message))
         ≡ Some (Rebuild arch source version number message) }
+    ensures build_priority { (arch source version : List ℕ) (value : ℕ) → value < 2 ^ 63
+        → command_in kind.BuildPriority (value_of_command (BuildPriority arch source version (pos value)))
+        ≡ Some (BuildPriority arch source version (pos value)) }
+    ensures minus { (arch source version : List ℕ) (less : ℕ)
+        → command_in kind.BuildPriority (value_of_command (BuildPriority arch source version (negsuc less)))
+        ≡ Some (BuildPriority arch source version (negsuc less)) }
+{}
+
+/// What a journal has of such a command has the keys of the table by which a request is read, and the key of its name, each
+/// at its place in the order of bytes, and no other.
+pub fn entries_have_the_keys_of_requests()
+    // of builders
+    ensures next { (arch builder : List ℕ) (after : Option ℕ)
+        → names_in (value_of_command (Next arch builder after)) ≡ names_of_entry kind.Next }
+    ensures take { (arch builder source version : List ℕ)
+        → names_in (value_of_command (Take arch builder source version)) ≡ names_of_entry kind.Take }
+    ensures built { (take_number : ℕ) → names_in (value_of_command (Built take_number)) ≡ names_of_entry kind.Built }
+    ensures uploaded { (take_number : ℕ)
+        → names_in (value_of_command (Uploaded take_number)) ≡ names_of_entry kind.Uploaded }
+    ensures waits { (take_number : ℕ) (relations : List ℕ)
+        → names_in (value_of_command (Waits take_number relations)) ≡ names_of_entry kind.Waits }
+    ensures put_back { (take_number : ℕ)
+        → names_in (value_of_command (PutBack take_number)) ≡ names_of_entry kind.PutBack }
+    ensures attempted { (take_number : ℕ) (reason : List ℕ)
+        → names_in (value_of_command (Attempted take_number reason)) ≡ names_of_entry kind.Attempted }
+    // of operators
+    ensures give_back { (arch source version : List ℕ)
+        → names_in (value_of_command (GiveBack arch source version)) ≡ names_of_entry kind.GiveBack }
+    ensures dep_wait { (arch source version relations : List ℕ)
+        → names_in (value_of_command (DepWait arch source version relations)) ≡ names_of_entry kind.DepWait }
+    ensures fail { (arch source version note : List ℕ)
+        → names_in (value_of_command (Fail arch source version note)) ≡ names_of_entry kind.Fail }
+    ensures not_for_us { (arch source version note : List ℕ)
+        → names_in (value_of_command (NotForUs arch source version note)) ≡ names_of_entry kind.NotForUs }
+    ensures rebuild { (arch source version : List ℕ) (number : ℕ) (message : List ℕ)
+        → names_in (value_of_command (Rebuild arch source version number message)) ≡ names_of_entry kind.Rebuild }
+    ensures build_priority { (arch source version : List ℕ) (value : ℤ)
+        → names_in (value_of_command (BuildPriority arch source version value)) ≡ names_of_entry kind.BuildPriority }
 {}
