@@ -13,10 +13,12 @@ use Rattle.wb_states.specs.declared.query.Query.{Query}
 use Rattle.wb_states.specs.declared.command.Command.{Command}
 use Rattle.wb_states.specs.Commands.{name_of_command}
 use Rattle.wb_states.specs.declared.refusal.Refusal.{Refusal}
-use Rattle.wb_states.specs.declared.refusal.Refusal.TheVariants.{Closed, Store}
+use Rattle.wb_states.specs.declared.refusal.Refusal.TheVariants.{Closed, Memory as refusal_Memory, Store}
+use Rattle.wb_states.specs.Refusals.{IsOfMachine, is_of_store}
 use Rattle.wb_states.specs.declared.reply.Reply.{Reply}
 use Rattle.wb_states.specs.declared.store_fault.StoreFault.{StoreFault}
 use Rattle.wb_step.proofs.CountedLemmas.{step-unchanged}
+use Rattle.wb_step.proofs.OfficeLemmas.{is_of_store-cases, refusal-cases}
 use Rattle.wb_step.specs.Step.{step}
 use Rattle.wb_words.specs.Words.{invocation_in}
 use Rattle.wb_words.specs.declared.fault.WordsFault.{WordsFault}
@@ -24,14 +26,15 @@ use Rattle.wb_words.specs.declared.fault.WordsFault.TheVariants.{NoCommand, Memo
 use Rattle.wb_words.specs.declared.words.Invocation.{Invocation}
 use Rattle.wb_words.specs.declared.words.Invocation.TheVariants.{Command as invocation_Command, Merge as invocation_Merge, Query as invocation_Query, Report as invocation_Report}
 use Rattle.wb_api.specs.Encoding.{line_fault_text, refusal_text, is_plain, IsMemoryText}
-use Rattle.wb_api.specs.Queries.{query_text}
 use Rattle.wb_api.proofs.ExchangeLemmas.{found-formed, plain-query}
+use Rattle.wb_api.proofs.ResponseLemmas.{memory-refusal, said-as}
 use Rattle.deb_text.specs.Lines.{words_in, is_blank_line}
 use Rattle.wb_streams.specs.Line.{is_long, with_line_feed}
 use Rattle.wb_daemon.specs.Lists.{MayRead, MayReadReport, MayReadLess, LacksReport}
-use Rattle.wb_step.specs.Offices.{Standing, Open, Shut}
-use Rattle.wb_daemon.specs.Run.{Asked, LineResponse, IsInvocationResponse, IsLineResponse, IsRefused, IsResponse, IsSaid, InvokesAs, Invokes, IsRefusedByStore, IsResponseOfKind, LineKind, Blank, Fault, Request, answer_response, asked_by, command_response, found_response, kind_of_line, kind_of_invocation, invocation_of_line, line_fault_response, memory_response, needs_memory, refusal_response}
-use Rattle.wb_daemon.specs.Turn.{Answers, IsInvocationResponseOrMemory, IsMadeResponse, IsQueryResponseOrMemory, IsReadAs, AnswersInPart, IsWritten, TookEndedLine, TookLastLine, StopsAt, StopsTurn, Turns}
+use Rattle.wb_step.specs.Offices.{Failed, Standing, Open, Shut}
+use Rattle.wb_api.specs.Responses.{command_response, found_response, IsFoundAnswer, IsRefusal, IsRefusedByStore, memory_response, query_response, refusal_response, reply_response, Response}
+use Rattle.wb_daemon.specs.Run.{Asked, IsInvocationResponse, IsLineResponse, IsRefused, IsResponse, IsSaid, InvokesAs, Invokes, IsResponseOfKind, LineKind, Blank, Fault, Request, asked_by, kind_of_line, kind_of_invocation, invocation_of_line, line_fault_response, needs_memory, on_line}
+use Rattle.wb_daemon.specs.Turn.{Answers, is_refused_by_store, IsInvocationResponseOrMemory, IsMadeResponse, IsQueryResponseOrMemory, IsReadAs, AnswersInPart, IsWritten, TookEndedLine, TookLastLine, StopsAt, StopsTurn, Turns}
 use Rattle.wb_streams.specs.Streams.{AppendsFront}
 use Rattle.wb_daemon.specs.declared.answer.LineAnswer.{LineAnswer}
 use Rattle.wb_daemon.specs.declared.message.Cause.{Cause}
@@ -63,7 +66,7 @@ kind_of_line-read line h k =
     ∙ ap (λ b. cond b Blank (kind_of_invocation (invocation_of_line line))) k
 
 -- what may be said to a line of its kind may be said to the line
-IsLineResponse-kind : (may_read : MayRead) (machine : Machine) (line : List ℕ) (kind : LineKind) (response : LineResponse) → kind_of_line line ≡ kind
+IsLineResponse-kind : (may_read : MayRead) (machine : Machine) (line : List ℕ) (kind : LineKind) (response : Response) → kind_of_line line ≡ kind
     → IsResponseOfKind may_read machine kind response → IsLineResponse may_read machine line response
 IsLineResponse-kind may_read machine line kind response e h = inl (subst (λ (x : LineKind). IsResponseOfKind may_read machine x response) (sym e) h)
 
@@ -77,7 +80,7 @@ needs_memory-long : (line : List ℕ) → is_long line ≡ true → needs_memory
 needs_memory-long line h = ap (λ b. not b && (not (is_blank_line line) && is_utf8 line)) h
 
 -- what may be said to a line that is too long may be said to every such line
-pub IsLineResponse-long : (may_read : MayRead) (machine : Machine) (line other : List ℕ) (response : LineResponse) → is_long line ≡ true → is_long other ≡ true
+pub IsLineResponse-long : (may_read : MayRead) (machine : Machine) (line other : List ℕ) (response : Response) → is_long line ≡ true → is_long other ≡ true
     → IsLineResponse may_read machine line response → IsLineResponse may_read machine other response
 IsLineResponse-long may_read machine line other response h k (inl e) =
     inl (subst (λ (x : LineKind). IsResponseOfKind may_read machine x response) (kind_of_line-long line h ∙ sym (kind_of_line-long other k)) e)
@@ -92,22 +95,22 @@ utf8-invocation line invocation false u e =
     cc
 
 -- what may be said to what was read may be said to what was asked
-pub IsResponse-read : (may_read : MayRead) (machine : Machine) (asked : Asked) (invocation : Invocation) (response : LineResponse) → IsReadAs asked (Ok invocation)
+pub IsResponse-read : (may_read : MayRead) (machine : Machine) (asked : Asked) (invocation : Invocation) (response : Response) → IsReadAs asked (Ok invocation)
     → IsInvocationResponseOrMemory may_read machine invocation response → IsResponse may_read machine asked response
 IsResponse-read may_read machine asked invocation response was (inl p) =
     inl (subst (λ (kind : LineKind). IsResponseOfKind may_read machine kind response) (sym was.0) p)
 IsResponse-read may_read machine asked invocation response was (inr p) = inr (was.1, p.1)
 
-pub IsResponse-fault : (may_read : MayRead) (machine : Machine) (asked : Asked) (response : LineResponse) → asked.kind ≡ Fault
+pub IsResponse-fault : (may_read : MayRead) (machine : Machine) (asked : Asked) (response : Response) → asked.kind ≡ Fault
     → response ≡ line_fault_response machine → IsResponse may_read machine asked response
 IsResponse-fault may_read machine asked response was p = inl (subst (λ (kind : LineKind). IsResponseOfKind may_read machine kind response) (sym was) p)
 
-pub IsResponse-memory : (may_read : MayRead) (machine : Machine) (asked : Asked) (response : LineResponse) → IsTrue asked.needs_memory
-    → response ≡ memory_response machine → IsResponse may_read machine asked response
+pub IsResponse-memory : (may_read : MayRead) (machine : Machine) (asked : Asked) (response : Response) → IsTrue asked.needs_memory
+    → response ≡ memory_response on_line machine → IsResponse may_read machine asked response
 IsResponse-memory may_read machine asked response was p = inr (was, p)
 
-pub IsResponse-unread : (may_read : MayRead) (machine : Machine) (asked : Asked) (fault : WordsFault) (response : LineResponse) → IsReadAs asked (Err fault)
-    → (fault ≡ NoCommand → response ≡ line_fault_response machine) → (fault ≡ Memory → response ≡ memory_response machine) → IsResponse may_read machine asked response
+pub IsResponse-unread : (may_read : MayRead) (machine : Machine) (asked : Asked) (fault : WordsFault) (response : Response) → IsReadAs asked (Err fault)
+    → (fault ≡ NoCommand → response ≡ line_fault_response machine) → (fault ≡ Memory → response ≡ memory_response on_line machine) → IsResponse may_read machine asked response
 IsResponse-unread may_read machine asked NoCommand response read fault memory = IsResponse-fault may_read machine asked response read (fault refl)
 IsResponse-unread may_read machine asked Memory response read fault memory = IsResponse-memory may_read machine asked response read (memory refl)
 
@@ -135,7 +138,7 @@ InvokesAs-more old new m (invocation_Query query) command h = h
 InvokesAs-more old new m (invocation_Merge sources parts) command h = MayReadMerge-more old new m sources parts command h
 InvokesAs-more old new m (invocation_Report arch file) command h = MayReadReport-more old new m arch file command h
 
-IsInvocationResponse-more : (old new : MayRead) → MayReadLess old new → (machine : Machine) (invocation : Invocation) (response : LineResponse)
+IsInvocationResponse-more : (old new : MayRead) → MayReadLess old new → (machine : Machine) (invocation : Invocation) (response : Response)
     → IsInvocationResponse new machine invocation response → IsInvocationResponse old machine invocation response
 IsInvocationResponse-more old new m machine (invocation_Command command) response h = h
 IsInvocationResponse-more old new m machine (invocation_Query query) response h = h
@@ -148,13 +151,13 @@ IsInvocationResponse-more old new m machine (invocation_Report arch file) respon
 IsInvocationResponse-more old new m machine (invocation_Report arch file) response (inr h) =
     inr (LacksReport-more old new m file h.0, h.1)
 
-IsResponseOfKind-more : (old new : MayRead) → MayReadLess old new → (machine : Machine) (kind : LineKind) (response : LineResponse)
+IsResponseOfKind-more : (old new : MayRead) → MayReadLess old new → (machine : Machine) (kind : LineKind) (response : Response)
     → IsResponseOfKind new machine kind response → IsResponseOfKind old machine kind response
 IsResponseOfKind-more old new m machine Blank response h = h
 IsResponseOfKind-more old new m machine Fault response h = h
 IsResponseOfKind-more old new m machine (Request invocation) response h = IsInvocationResponse-more old new m machine invocation response h
 
-IsResponse-more : (old new : MayRead) → MayReadLess old new → (machine : Machine) (asked : Asked) (response : LineResponse)
+IsResponse-more : (old new : MayRead) → MayReadLess old new → (machine : Machine) (asked : Asked) (response : Response)
     → IsResponse new machine asked response → IsResponse old machine asked response
 IsResponse-more old new m machine asked response (inl h) = inl (IsResponseOfKind-more old new m machine asked.kind response h)
 IsResponse-more old new m machine asked response (inr h) = inr h
@@ -166,13 +169,13 @@ Answers-more old new m asked before after a b status h = (h.0, IsResponse-more o
 Invokes-more : (old new : MayRead) → MayReadLess old new → (asked : Asked) (command : Command) → Invokes new asked command → Invokes old asked command
 Invokes-more old new m asked command h = (h.0, h.1, InvokesAs-more old new m h.0 command h.2)
 
-IsRefused-more : (old new : MayRead) → MayReadLess old new → (machine : Machine) (asked : Asked) (response : LineResponse) (standing : Standing)
+IsRefused-more : (old new : MayRead) → MayReadLess old new → (machine : Machine) (asked : Asked) (response : Response) (standing : Standing)
     → IsRefused new machine asked response standing → IsRefused old machine asked response standing
 IsRefused-more old new m machine asked response standing (invocation, is, inl h) = (invocation, is, inl h)
 IsRefused-more old new m machine asked response standing (invocation, is, inr h) =
     (invocation, is, inr (h.0, InvokesAs-more old new m invocation h.0 h.1, h.2))
 
-IsSaid-more : (old new : MayRead) → MayReadLess old new → (machine : Machine) (asked : Asked) (response : LineResponse) (standing : Standing)
+IsSaid-more : (old new : MayRead) → MayReadLess old new → (machine : Machine) (asked : Asked) (response : Response) (standing : Standing)
     → IsSaid new machine asked response standing → IsSaid old machine asked response standing
 IsSaid-more old new m machine asked response standing (inl h) = inl (IsResponse-more old new m machine asked response h.0, h.1)
 IsSaid-more old new m machine asked response standing (inr h) = inr (IsRefused-more old new m machine asked response standing h)
@@ -253,7 +256,7 @@ answers-long_cut may_read line machine old new h p =
 
 -- what may be said to the report that a file gave, or if it is at fault
 pub report-response : (may_read : MayRead) (machine : Machine) (invocation : Invocation) (arch file : List ℕ) {E : Type 0}
-    (made : Result (Option Command) E) (response : LineResponse) → invocation ≡ invocation_Report arch file
+    (made : Result (Option Command) E) (response : Response) → invocation ≡ invocation_Report arch file
     → IfOk made (λ found. IfSome found (MayReadReport may_read arch file)) → IfOk made (λ found. IfNone found (LacksReport may_read file))
     → IsMadeResponse made machine response → IsInvocationResponseOrMemory may_read machine invocation response
 report-response may_read machine invocation arch file made response is given lacks said =
@@ -274,56 +277,60 @@ made-command May made command given e = subst (λ m. IfOk m (λ found. IfSome fo
 
 -- ---- what is said to a refused command
 
--- the same text is the same response
-said-same : {s t : List ℕ} {machine : Machine} → s ≡ t
-    → ◌≡◌ {A = LineResponse} (record { text = with_line_feed s; machine = machine; status = 1 }) (record { text = with_line_feed t; machine = machine; status = 1 })
-said-same {s} {t} {machine} e = ap (λ x. record { text = with_line_feed x; machine = machine; status = 1 }) e
-
 pub refused-response : (machine : Machine) (command : Command) (refusal : Refusal) → (step machine command).0 ≡ Err refusal
-    → command_response machine command ≡ refusal_response machine refusal
+    → command_response on_line machine command ≡ refusal_response on_line machine refusal
 refused-response machine command refusal e =
-    ap (λ (r : Result Reply Refusal). answer_response (name_of_command command) r (step machine command).1) e
-    ∙ ap (answer_response (name_of_command command) (Err refusal)) (step-unchanged machine command refusal e)
-
--- the refusal of an office that is closed is said
-pub closed-said : (machine : Machine) (failed : StoreFault → Standing) (refusal : Refusal) (text : CowStr Global) → refusal ≡ Closed
-    → (is_plain refusal ≡ true → IsBorrowedStr text × (cow_str_bytes text ≡ refusal_text refusal))
-    → IsRefusedByStore machine failed (record { text = with_line_feed (cow_str_bytes text); machine = machine; status = 1 }) Shut
-closed-said machine failed refusal text e plain =
-    inl (said-same ((plain (ap is_plain e)).1 ∙ ap refusal_text e), refl)
-
--- the refusal of an office whose store failed is said, or that there is no memory for it
-pub store-said : (machine : Machine) (failed : StoreFault → Standing) (refusal : Refusal) (fault : StoreFault) (text : CowStr Global) → refusal ≡ Store fault
-    → (cow_str_bytes text ≡ refusal_text refusal) ⊎ IsMemoryText text
-    → IsRefusedByStore machine failed (record { text = with_line_feed (cow_str_bytes text); machine = machine; status = 1 }) (failed fault)
-store-said machine failed refusal fault text e (inl same) = inr (fault, inl (said-same (same ∙ ap refusal_text e)), refl)
-store-said machine failed refusal fault text e (inr short) = inr (fault, inr (said-same short.1), refl)
+    ap (λ (r : Result Reply Refusal). reply_response on_line (name_of_command command) r (step machine command).1) e
+    ∙ ap (reply_response on_line (name_of_command command) (Err refusal)) (step-unchanged machine command refusal e)
 
 -- ---- what is said to a query
 
--- what was found is said
-pub found-said : (machine : Machine) (query : Query) (found : Answer) (text : List ℕ) → answer_of machine query ≡ Ok found → text ≡ query_text found
-    → IsQueryResponseOrMemory machine query (record { text = with_line_feed text; machine = machine; status = 0 })
-found-said machine query found text e said =
-    inl (ap (λ t. record { text = with_line_feed t; machine = machine; status = 0 }) said ∙ sym (ap (found_response machine) e))
+-- the same text is the same response
+said-same : {s t : List ℕ} {machine : Machine} → s ≡ t
+    → ◌≡◌ {A = Response} (record { text = with_line_feed s; machine = machine; status = 1 }) (record { text = with_line_feed t; machine = machine; status = 1 })
+said-same {s} {t} {machine} e = ap (λ x. record { text = with_line_feed x; machine = machine; status = 1 }) e
 
--- that there is no memory for the text of what was found is said
-pub found-unsaid : (machine : Machine) (query : Query) (found : Answer) (response : LineResponse) → answer_of machine query ≡ Ok found
-    → response ≡ memory_response machine → IsQueryResponseOrMemory machine query response
-found-unsaid machine query found response e same = inr (found-formed machine query found e, same)
-
--- that there is no memory is said to a query whose names are well formed
-pub query-memory-said : (machine : Machine) (query : Query) (response : LineResponse) → has_malformed_name query ≡ false → response ≡ memory_response machine
-    → IsQueryResponseOrMemory machine query response
-query-memory-said machine query response wants same = inr (wants, same)
-
-pub query-short-said : (machine : Machine) (query : Query) (text : CowStr Global) → has_malformed_name query ≡ false → IsMemoryText text
-    → IsQueryResponseOrMemory machine query (record { text = with_line_feed (cow_str_bytes text); machine = machine; status = 1 })
-query-short-said machine query text wants short = inr (wants, said-same short.1)
+-- a refusal is said, or that there is no memory for its text, which a plain refusal does not need
+pub refusal-said : (machine : Machine) (refusal : Refusal) (text : CowStr Global) → (cow_str_bytes text ≡ refusal_text refusal) ⊎ IsMemoryText text
+    → (is_plain refusal ≡ true → IsBorrowedStr text × (cow_str_bytes text ≡ refusal_text refusal))
+    → IsRefusal on_line machine refusal (record { text = with_line_feed (cow_str_bytes text); machine = machine; status = 1 })
+refusal-said machine refusal text told plain = go (is_plain refusal) refl told
+  where
+    go : (b : Bool) → is_plain refusal ≡ b → (cow_str_bytes text ≡ refusal_text refusal) ⊎ IsMemoryText text
+        → IsRefusal on_line machine refusal (record { text = with_line_feed (cow_str_bytes text); machine = machine; status = 1 })
+    go true is told = inl (said-same (plain is).1)
+    go false is (inl same) = inl (said-same same)
+    go false is (inr short) = inr (is, said-same short.1)
 
 -- a refusal that a query is answered with is said: it needs no memory, since it tells no more than its number and its name
-pub query-refusal-said : (machine : Machine) (query : Query) (refusal : Refusal) (text : CowStr Global) → answer_of machine query ≡ Err refusal
-    → (cow_str_bytes text ≡ refusal_text refusal) ⊎ IsMemoryText text → (is_plain refusal ≡ true → IsBorrowedStr text × (cow_str_bytes text ≡ refusal_text refusal))
-    → IsQueryResponseOrMemory machine query (record { text = with_line_feed (cow_str_bytes text); machine = machine; status = 1 })
-query-refusal-said machine query refusal text e told plain =
-    inl (said-same (plain (plain-query machine query refusal e)).1 ∙ sym (ap (found_response machine) e))
+query-refusal-said : (machine : Machine) (query : Query) (refusal : Refusal) (response : Response) → answer_of machine query ≡ Err refusal
+    → IsRefusal on_line machine refusal response → response ≡ query_response on_line machine query
+query-refusal-said machine query refusal response e (inl same) = same ∙ sym (ap (found_response on_line machine) e)
+query-refusal-said machine query refusal response e (inr (long, same)) = absurd (false≢true (sym long ∙ plain-query machine query refusal e))
+
+-- what was found is said, or the refusal
+pub found-said : (machine : Machine) (query : Query) (StandsAt : Machine → Type 0) (found : Result Answer Refusal) (response : Response)
+    → IsFoundAnswer on_line machine found response → is_refused_by_store found ≡ false
+    → IfOk found (λ answer. (answer_of machine query ≡ Ok answer) × StandsAt machine)
+    → IfErr found (λ refusal. IsOfMachine refusal → is_of_store refusal ≡ false → (answer_of machine query ≡ Err refusal) × StandsAt machine)
+    → (found ≡ Err refusal_Memory → (has_malformed_name query ≡ false) × StandsAt machine)
+    → StandsAt machine × IsQueryResponseOrMemory machine query response
+found-said machine query StandsAt (Ok answer) response (inl same) goes answered refused memory =
+    (answered.1, inl (same ∙ sym (ap (found_response on_line machine) answered.0)))
+found-said machine query StandsAt (Ok answer) response (inr same) goes answered refused memory =
+    (answered.1, inr (found-formed machine query answer answered.0, same))
+found-said machine query StandsAt (Err refusal) response said goes answered refused memory = elim (refusal-cases refusal) [
+  | inl is ↦ let wants = memory (ap Err is) in (wants.1, inr (wants.0, memory-refusal on_line machine response (said-as on_line machine response is said)))
+  | inr other ↦ let kept = refused other goes in (kept.1, inl (query-refusal-said machine query refusal response kept.0 said))
+]
+
+-- the refusal of an office that is closed, or whose store failed, is said
+pub found-refused : (machine : Machine) (Stands : Standing → Type 0) (found : Result Answer Refusal) (response : Response)
+    → IsFoundAnswer on_line machine found response → is_refused_by_store found ≡ true
+    → (found ≡ Err Closed → Stands Shut) → ((fault : StoreFault) → found ≡ Err (Store fault) → Stands (Failed fault))
+    → (standing : Standing) × (Stands standing × IsRefusedByStore on_line machine (λ fault. Failed fault) response standing)
+found-refused machine Stands (Ok answer) response said stops closed store = absurd (false≢true stops)
+found-refused machine Stands (Err refusal) response said stops closed store = elim (is_of_store-cases refusal stops) [
+  | inl is ↦ (Shut, (closed (ap Err is), inl (said-as on_line machine response is said, refl)))
+  | inr failed ↦ (Failed failed.0, (store failed.0 (ap Err failed.1), inr (failed.0, said-as on_line machine response failed.1 said, refl)))
+]

@@ -15,7 +15,8 @@ use Rattle.wb_streams.specs.Line.{ended_in, is_long, input_lines, line_limit, th
 use Rattle.wb_daemon.specs.Limits.{lines_limit, AreWithinLimit}
 use Rattle.wb_daemon.specs.Lists.{MayRead, IsAllOf}
 use Rattle.wb_step.specs.Offices.{Standing, Open}
-use Rattle.wb_daemon.specs.Run.{LineResponse, IsLineResponse, Runs, EndsInput, FailsFor, StopsAfter, StopsBeforeReply, StopsBetween, RunStopsFor, StopsWithin, WereActedOn, asked_by, followed, no_response}
+use Rattle.wb_api.specs.Responses.{Response}
+use Rattle.wb_daemon.specs.Run.{IsLineResponse, Runs, EndsInput, FailsFor, StopsAfter, StopsBeforeReply, StopsBetween, RunStopsFor, StopsWithin, WereActedOn, asked_by, followed, no_response}
 use Rattle.wb_streams.specs.Streams.{Flags, Stream}
 use Rattle.wb_daemon.specs.Turn.{Answers, AnswersInPart, AnswersLast, IsCauseAtLine, TookEndedLine, TookLastLine, StopsAt, LacksReply, StopsTurn, fails_to_write}
 use Rattle.wb_daemon.specs.declared.message.Cause.{Cause}
@@ -107,27 +108,27 @@ ended_in-with_line_feeds lines line a h =
 
 -- the same text and status are the same response
 pub response-same : {s t : List ℕ} {m : Machine} {j k : ℕ} → s ≡ t → j ≡ k
-    → ◌≡◌ {A = LineResponse} (record { text = s; machine = m; status = j }) (record { text = t; machine = m; status = k })
+    → ◌≡◌ {A = Response} (record { text = s; machine = m; status = j }) (record { text = t; machine = m; status = k })
 response-same {s} {t} {m} {j} {k} p q = ap (λ x. record { text = x; machine = m; status = j }) p ∙ ap (λ n. record { text = t; machine = m; status = n }) q
 
 pub max_assoc : (i j k : ℕ) → max (max i j) k ≡ max i (max j k)
 max_assoc i j k = omega arith
 
-pub Runs-snoc : (may_read : MayRead) (lines : List (List ℕ)) (machine : Machine) (whole : LineResponse) (line : List ℕ) (response : LineResponse)
+pub Runs-snoc : (may_read : MayRead) (lines : List (List ℕ)) (machine : Machine) (whole : Response) (line : List ℕ) (response : Response)
     → Runs may_read machine lines whole → IsLineResponse may_read whole.machine line response → Runs may_read machine (lines ++ line ∷ []) (followed whole response)
 Runs-snoc may_read [] machine whole line response p q = (
   response,
   no_response response.machine,
-  subst (λ (x : LineResponse). IsLineResponse may_read x.machine line response) p q,
+  subst (λ (x : Response). IsLineResponse may_read x.machine line response) p q,
   refl,
-  ap (λ (x : LineResponse). followed x response) p ∙ response-same {m = response.machine} (sym (append-nil response.text)) (zero-max response.status ∙ sym (max-zero response.status)),
+  ap (λ (x : Response). followed x response) p ∙ response-same {m = response.machine} (sym (append-nil response.text)) (zero-max response.status ∙ sym (max-zero response.status)),
 )
 Runs-snoc may_read (x ∷ xs) machine whole line response p q = (
   p.0,
   followed p.1 response,
   p.2,
-  Runs-snoc may_read xs p.0.machine p.1 line response p.3 (subst (λ (y : LineResponse). IsLineResponse may_read y.machine line response) p.4 q),
-  ap (λ (y : LineResponse). followed y response) p.4
+  Runs-snoc may_read xs p.0.machine p.1 line response p.3 (subst (λ (y : Response). IsLineResponse may_read y.machine line response) p.4 q),
+  ap (λ (y : Response). followed y response) p.4
       ∙ response-same {m = response.machine} (append_assoc p.0.text p.1.text response.text) (max_assoc p.0.status p.1.status response.status),
 )
 
@@ -192,7 +193,7 @@ nothing_left rest (inr h) = absurd h
 -- the lines of an input whose last line was read, in so far as it is not too long
 last_lines : (may_read : MayRead) (lines : List (List ℕ)) (line rest : List ℕ) → AreLines lines → IsOneLine line → (rest ≡ []) ⊎ (is_long line ≡ true)
     → (last : List ℕ) × (input_lines (with_line_feeds lines ++ (line ++ rest)) ≡ lines ++ last ∷ [])
-    × ((machine : Machine) (response : LineResponse) → IsLineResponse may_read machine line response → IsLineResponse may_read machine last response)
+    × ((machine : Machine) (response : Response) → IsLineResponse may_read machine line response → IsLineResponse may_read machine last response)
 last_lines may_read lines line rest a h (inl e) = (
   line,
   ap (λ l. input_lines (with_line_feeds lines ++ l)) (ap (λ r. line ++ r) e ∙ append-nil line) ∙ input_lines-last lines line a h,

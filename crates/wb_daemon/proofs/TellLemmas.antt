@@ -21,7 +21,8 @@ use Rattle.wb_api.specs.Encoding.{is_plain}
 use Rattle.wb_archive.specs.Readers.{IsMergeOf}
 use Rattle.wb_daemon.specs.declared.lists.MergeLists.{MergeLists}
 use Rattle.wb_daemon.specs.Lists.{MayRead, MayReadMerge, OpensMerge}
-use Rattle.wb_daemon.specs.Run.{IsRefusedByStore, answer_response, memory_response, refusal_response}
+use Rattle.wb_api.specs.Responses.{IsRefusedByStore, memory_response, refusal_response, reply_response}
+use Rattle.wb_daemon.specs.Run.{on_line}
 use Rattle.wb_daemon.specs.Turn.{response_of_answer, IsCommandResponseOrMemory, IsInvocationResponseOrMemory, SaysEver, Tells}
 use Rattle.wb_daemon.specs.declared.answer.LineAnswer.{LineAnswer}
 use Rattle.wb_daemon.proofs.AnswerLemmas.{refused-response}
@@ -29,8 +30,8 @@ use Rattle.wb_daemon.proofs.OpenedLemmas.{merge-command, opened-merge}
 
 -- the refusal of an office that is closed, or whose store failed, is told
 pub tells-store : (name : List ℕ) (is_counted : Bool) (answered : Result Reply Refusal) (answer : LineAnswer) → Tells name is_counted answered answer → answer.stops ≡ true
-    → ((answered ≡ Err Closed) × SaysEver answer (λ after. refusal_response after Closed))
-    ⊎ ((fault : StoreFault) × ((answered ≡ Err (Store fault)) × (SaysEver answer (λ after. refusal_response after (Store fault)) ⊎ SaysEver answer memory_response)))
+    → ((answered ≡ Err Closed) × SaysEver answer (λ after. refusal_response on_line after Closed))
+    ⊎ ((fault : StoreFault) × ((answered ≡ Err (Store fault)) × (SaysEver answer (λ after. refusal_response on_line after (Store fault)) ⊎ SaysEver answer (memory_response on_line))))
 tells-store name is_counted (Ok reply) answer told stops = absurd (false≢true (sym told.0 ∙ stops))
 tells-store name is_counted (Err refusal) answer told stops = elim (is_of_store-cases refusal (sym told.0 ∙ stops)) [
   | inl is ↦ inl (ap Err is, closed refusal is told.1)
@@ -38,25 +39,25 @@ tells-store name is_counted (Err refusal) answer told stops = elim (is_of_store-
 ]
   where
     closed : (refusal : Refusal) → refusal ≡ Closed
-        → (¬ (refusal ≡ Memory) × SaysEver answer (λ after. refusal_response after refusal))
-        ⊎ (((refusal ≡ Memory) ⊎ (is_plain refusal ≡ false)) × SaysEver answer memory_response) → SaysEver answer (λ after. refusal_response after Closed)
-    closed refusal is (inl said) = λ after. said.1 after ∙ ap (refusal_response after) is
+        → (¬ (refusal ≡ Memory) × SaysEver answer (λ after. refusal_response on_line after refusal))
+        ⊎ (((refusal ≡ Memory) ⊎ (is_plain refusal ≡ false)) × SaysEver answer (memory_response on_line)) → SaysEver answer (λ after. refusal_response on_line after Closed)
+    closed refusal is (inl said) = λ after. said.1 after ∙ ap (refusal_response on_line after) is
     closed refusal is (inr (inl memory, said)) = let differ : Closed ≡ Memory → ⊥ = λ same. cc in absurd (differ (sym is ∙ memory))
     closed refusal is (inr (inr long, said)) = absurd (false≢true (sym long ∙ ap is_plain is))
 
     store : (refusal : Refusal) (fault : StoreFault) → refusal ≡ Store fault
-        → (¬ (refusal ≡ Memory) × SaysEver answer (λ after. refusal_response after refusal))
-        ⊎ (((refusal ≡ Memory) ⊎ (is_plain refusal ≡ false)) × SaysEver answer memory_response)
-        → SaysEver answer (λ after. refusal_response after (Store fault)) ⊎ SaysEver answer memory_response
-    store refusal fault is (inl said) = inl (λ after. said.1 after ∙ ap (refusal_response after) is)
+        → (¬ (refusal ≡ Memory) × SaysEver answer (λ after. refusal_response on_line after refusal))
+        ⊎ (((refusal ≡ Memory) ⊎ (is_plain refusal ≡ false)) × SaysEver answer (memory_response on_line))
+        → SaysEver answer (λ after. refusal_response on_line after (Store fault)) ⊎ SaysEver answer (memory_response on_line)
+    store refusal fault is (inl said) = inl (λ after. said.1 after ∙ ap (refusal_response on_line after) is)
     store refusal fault is (inr said) = inr said.1
 
 -- such a refusal is said of an office whose store refused it
 pub refused-said : (machine : Machine) (failed : StoreFault → Standing) (fault : StoreFault) (answer : LineAnswer)
-    → SaysEver answer (λ after. refusal_response after (Store fault)) ⊎ SaysEver answer memory_response
-    → IsRefusedByStore machine failed (response_of_answer answer machine) (failed fault)
+    → SaysEver answer (λ after. refusal_response on_line after (Store fault)) ⊎ SaysEver answer (memory_response on_line)
+    → IsRefusedByStore on_line machine failed (response_of_answer answer machine) (failed fault)
 refused-said machine failed fault answer (inl said) = inr (fault, inl (said machine), refl)
-refused-said machine failed fault answer (inr said) = inr (fault, inr (said machine), refl)
+refused-said machine failed fault answer (inr said) = inr (fault, inr (refl, said machine), refl)
 
 -- ---- a command
 
@@ -72,7 +73,7 @@ tells-command machine command is_counted StandsAt (Ok reply) answer (stops, inl 
   (step machine command).1,
   (
     replied.1,
-    inl (said (step machine command).1 ∙ sym (ap (λ (r : Result Reply Refusal). answer_response (name_of_command command) r (step machine command).1) replied.0)),
+    inl (said (step machine command).1 ∙ sym (ap (λ (r : Result Reply Refusal). reply_response on_line (name_of_command command) r (step machine command).1) replied.0)),
   ),
 )
 tells-command machine command is_counted StandsAt (Ok reply) answer (stops, inr (not_counted, said)) goes replied refused memory uncounted =

@@ -1,80 +1,46 @@
 -- What a run over the lines of an input writes, and what it leaves of the office.
-use Rattle.std.specs.Prelude.{◌≡◌, ℕ, ◌<◌, max, Bool, true, not, ◌&&◌, ◌⊎◌, if◌then◌else◌, List, [], ◌∷◌, ◌++◌, length, take, codes, Option, None, Some, IsTrue, Result, Ok, Err}
+use Rattle.std.specs.Prelude.{◌≡◌, ℕ, ◌<◌, max, Bool, true, not, ◌&&◌, ◌⊎◌, if◌then◌else◌, List, [], ◌∷◌, ◌++◌, length, take, codes, Option, None, Some, IsTrue}
 use Rattle.std.specs.List.{list_any}
 use Rattle.std.specs.Str.{is_utf8}
 use Rattle.std.specs.Io.KnownBytes.{Appends, Consumes, IsAtEnd}
-use Rattle.wb_states.specs.Commands.{name_of_command}
 use Rattle.wb_states.specs.Machine.{Machine}
-use Rattle.wb_states.specs.Queries.{answer_of}
 use Rattle.wb_states.specs.declared.command.Command.{Command}
 use Rattle.wb_states.specs.declared.command.Part.{Part}
-use Rattle.wb_states.specs.declared.query.Answer.{Answer}
 use Rattle.wb_states.specs.declared.query.Query.{Query}
-use Rattle.wb_states.specs.declared.refusal.Refusal.{Refusal}
-use Rattle.wb_states.specs.declared.refusal.Refusal.TheVariants.{Closed, Store}
-use Rattle.wb_states.specs.declared.reply.Reply.{Reply}
-use Rattle.wb_states.specs.declared.store_fault.StoreFault.{StoreFault}
-use Rattle.wb_step.specs.Step.{Outcome, step}
+use Rattle.wb_states.specs.declared.refusal.Refusal.TheVariants.{Store}
+use Rattle.wb_step.specs.Step.{Outcome}
 use Rattle.wb_archive.specs.Readers.{IsMergeOfTexts, IsOfRead}
 use Rattle.wb_words.specs.Words.{invocation_in}
 use Rattle.wb_words.specs.declared.words.Invocation.{Invocation}
 use Rattle.wb_words.specs.declared.words.Invocation.TheVariants.{Command as invocation_Command, Merge as invocation_Merge, Query as invocation_Query, Report as invocation_Report}
 use Rattle.wb_words.specs.declared.words.PartNames.{PartNames}
-use Rattle.wb_api.specs.Encoding.{reply_text, refusal_text, memory_text, line_fault_text, file_fault_text}
-use Rattle.wb_api.specs.Queries.{query_text}
+use Rattle.wb_api.specs.Encoding.{line_fault_text, file_fault_text}
+use Rattle.wb_api.specs.Responses.{Form, IsRefusedByStore, Response, command_response, memory_response, query_response, reply_response}
 use Rattle.deb_text.specs.Lines.{words_in, is_blank_line}
 use Rattle.wb_streams.specs.Line.{is_long, input_lines, ended_in, with_line_feed}
 use Rattle.wb_daemon.specs.Limits.{lines_limit, AreWithinLimit}
 use Rattle.wb_daemon.specs.Lists.{MayRead, MayReadMerge, MayReadParts, MayReadReport, IsAllOf, LacksMerge, LacksReport}
-use Rattle.wb_step.specs.Offices.{Accepts, Standing, Open, Shut, InDoubt, Failed}
+use Rattle.wb_step.specs.Offices.{Accepts, Standing, Open, InDoubt, Failed}
 use Rattle.wb_streams.specs.Streams.{Stream}
 use Rattle.wb_daemon.specs.declared.message.Cause.{Cause}
 use Rattle.wb_daemon.specs.declared.message.Cause.TheVariants as why
 
--- what is said to lines: the text, the office after it, and the status: 0 accepted, 1 refused, 2 no command, 3 a list that cannot be opened, or a report that cannot be read
-pub record LineResponse : Type 0 where
-  pub text : List ℕ
-  pub machine : Machine
-  pub status : ℕ
+-- the form of answers to lines: the status 0 of what is accepted or found and 1 of a refusal, and a line feed after the text. A line that is no command has the
+-- status 2, and one whose list cannot be opened, or whose report cannot be read, the status 3
+abbrev pub on_line : Form
+on_line = record { accepted = 0; refused = λ refusal. 1; written = with_line_feed }
 
 -- nothing is said, and the office stays as it is
-abbrev pub no_response : Machine → LineResponse
+abbrev pub no_response : Machine → Response
 no_response machine = record { text = []; machine = machine; status = 0 }
 
 -- a line that is no command changes nothing
-abbrev pub line_fault_response : Machine → LineResponse
+abbrev pub line_fault_response : Machine → Response
 line_fault_response machine = record { text = with_line_feed line_fault_text; machine = machine; status = 2 }
 
 -- a list that a line names cannot be opened, or its report cannot be read, which changes nothing
-abbrev pub file_fault_response : Machine → LineResponse
+abbrev pub file_fault_response : Machine → Response
 file_fault_response machine = record { text = with_line_feed file_fault_text; machine = machine; status = 3 }
-
--- there is no memory for the line, which changes nothing
-abbrev pub memory_response : Machine → LineResponse
-memory_response machine = record { text = with_line_feed memory_text; machine = machine; status = 1 }
-
--- the office answers a command of this name, and is then in this state
-abbrev pub answer_response : List ℕ → Result Reply Refusal → Machine → LineResponse
-answer_response name (Ok reply) after = record { text = with_line_feed (reply_text name reply); machine = after; status = 0 }
-answer_response name (Err refusal) after = record { text = with_line_feed (refusal_text refusal); machine = after; status = 1 }
-
--- what is said to a command
-abbrev pub command_response : Machine → Command → LineResponse
-command_response machine command =
-    answer_response (name_of_command command) (step machine command).0 (step machine command).1
-
--- a refusal is what is said, which changes nothing that is known of the office
-abbrev pub refusal_response : Machine → Refusal → LineResponse
-refusal_response machine refusal = record { text = with_line_feed (refusal_text refusal); machine = machine; status = 1 }
-
--- what was found is said, or the refusal
-abbrev pub found_response : Machine → Result Answer Refusal → LineResponse
-found_response machine (Ok found) = record { text = with_line_feed (query_text found); machine = machine; status = 0 }
-found_response machine (Err refusal) = refusal_response machine refusal
-
--- what is said to a query, which leaves the office as it was
-abbrev pub query_response : Machine → Query → LineResponse
-query_response machine query = found_response machine (answer_of machine query)
 
 -- what a line asks for: the line is UTF-8, and its words ask for it
 unfoldable pub invocation_of_line : List ℕ → Option Invocation
@@ -104,18 +70,11 @@ InvokesAs may_read (invocation_Query query) command = ⊥
 InvokesAs may_read (invocation_Merge sources parts) command = MayReadMerge may_read sources parts command
 InvokesAs may_read (invocation_Report arch file) command = MayReadReport may_read arch file command
 
--- it is refused since the office is closed, or since its store failed with the fault that is told, and the office then stands so: what is said, and how the office
--- then stands
-abbrev pub IsRefusedByStore : Machine → (StoreFault → Standing) → LineResponse → Standing → Type 0
-IsRefusedByStore before failed response standing =
-    ((response ≡ refusal_response before Closed) × (standing ≡ Shut))
-    ⊎ ((fault : StoreFault) × ((response ≡ refusal_response before (Store fault)) ⊎ (response ≡ memory_response before)) × (standing ≡ failed fault))
-
 -- what is asked for is refused by the store: a query, or a command, which is then in doubt
-abbrev pub IsInvocationRefused : MayRead → Machine → Invocation → LineResponse → Standing → Type 0
+abbrev pub IsInvocationRefused : MayRead → Machine → Invocation → Response → Standing → Type 0
 IsInvocationRefused may_read before invocation response standing =
-    ((query : Query) × (invocation ≡ invocation_Query query) × IsRefusedByStore before Failed response standing)
-    ⊎ ((command : Command) × InvokesAs may_read invocation command × IsRefusedByStore before (InDoubt command) response standing)
+    ((query : Query) × (invocation ≡ invocation_Query query) × IsRefusedByStore on_line before Failed response standing)
+    ⊎ ((command : Command) × InvokesAs may_read invocation command × IsRefusedByStore on_line before (InDoubt command) response standing)
 
 -- a merge of the lists that a line names came to this: that of bytes that they may be read as, of which some could not be read on
 pub record IsMergeAs (may_read : MayRead) (sources : List ℕ) (names : List PartNames) (machine : Machine) (outcome : Outcome) : Type 0 where
@@ -126,24 +85,24 @@ pub record IsMergeAs (may_read : MayRead) (sources : List ℕ) (names : List Par
   pub comes : IsMergeOfTexts IsOfRead (λ _. IsOfRead) text parts machine outcome
 
 -- what may be said to a merge of the lists that a line names, once they were opened
-abbrev pub IsMergeResponse : MayRead → List ℕ → List PartNames → Machine → LineResponse → Type 0
+abbrev pub IsMergeResponse : MayRead → List ℕ → List PartNames → Machine → Response → Type 0
 IsMergeResponse may_read sources names machine response =
     (outcome : Outcome) × IsMergeAs may_read sources names machine outcome
-    × (response ≡ answer_response (codes "merge") outcome.0 outcome.1)
+    × (response ≡ reply_response on_line (codes "merge") outcome.0 outcome.1)
 
 -- what may be said to what a line asks for: to a merge or a report that one of its files is at fault, too
-abbrev pub IsInvocationResponse : MayRead → Machine → Invocation → LineResponse → Type 0
-IsInvocationResponse may_read machine (invocation_Command command) response = response ≡ command_response machine command
-IsInvocationResponse may_read machine (invocation_Query query) response = response ≡ query_response machine query
+abbrev pub IsInvocationResponse : MayRead → Machine → Invocation → Response → Type 0
+IsInvocationResponse may_read machine (invocation_Command command) response = response ≡ command_response on_line machine command
+IsInvocationResponse may_read machine (invocation_Query query) response = response ≡ query_response on_line machine query
 IsInvocationResponse may_read machine (invocation_Merge sources parts) response =
     IsMergeResponse may_read sources parts machine response
     ⊎ (LacksMerge may_read sources parts × (response ≡ file_fault_response machine))
 IsInvocationResponse may_read machine (invocation_Report arch file) response =
-    ((command : Command) × MayReadReport may_read arch file command × (response ≡ command_response machine command))
+    ((command : Command) × MayReadReport may_read arch file command × (response ≡ command_response on_line machine command))
     ⊎ (LacksReport may_read file × (response ≡ file_fault_response machine))
 
 -- what may be said to a line of this kind
-abbrev pub IsResponseOfKind : MayRead → Machine → LineKind → LineResponse → Type 0
+abbrev pub IsResponseOfKind : MayRead → Machine → LineKind → Response → Type 0
 IsResponseOfKind may_read machine Blank response = response ≡ no_response machine
 IsResponseOfKind may_read machine Fault response = response ≡ line_fault_response machine
 IsResponseOfKind may_read machine (Request invocation) response = IsInvocationResponse may_read machine invocation response
@@ -162,26 +121,26 @@ abbrev pub asked_by : List ℕ → Asked
 asked_by line = record { kind = kind_of_line line; needs_memory = needs_memory line }
 
 -- what may be said to what was asked: that there is no memory for it is possible if its words need some
-abbrev pub IsResponse : MayRead → Machine → Asked → LineResponse → Type 0
+abbrev pub IsResponse : MayRead → Machine → Asked → Response → Type 0
 IsResponse may_read machine asked response =
-    IsResponseOfKind may_read machine asked.kind response ⊎ (IsTrue asked.needs_memory × (response ≡ memory_response machine))
+    IsResponseOfKind may_read machine asked.kind response ⊎ (IsTrue asked.needs_memory × (response ≡ memory_response on_line machine))
 
 -- what was asked is a command
 abbrev pub Invokes : MayRead → Asked → Command → Type 0
 Invokes may_read asked command = (invocation : Invocation) × (asked.kind ≡ Request invocation) × InvokesAs may_read invocation command
 
 -- what was asked is refused by the store
-abbrev pub IsRefused : MayRead → Machine → Asked → LineResponse → Standing → Type 0
+abbrev pub IsRefused : MayRead → Machine → Asked → Response → Standing → Type 0
 IsRefused may_read machine asked response standing =
     (invocation : Invocation) × (asked.kind ≡ Request invocation) × IsInvocationRefused may_read machine invocation response standing
 
 -- what is said to what was asked, and how the office then stands: it goes on, or the store refused what was asked
-abbrev pub IsSaid : MayRead → Machine → Asked → LineResponse → Standing → Type 0
+abbrev pub IsSaid : MayRead → Machine → Asked → Response → Standing → Type 0
 IsSaid may_read machine asked response standing =
     (IsResponse may_read machine asked response × (standing ≡ Open)) ⊎ IsRefused may_read machine asked response standing
 
 -- what may be said to a line: that there is no memory for it is possible at each line with words
-abbrev pub IsLineResponse : MayRead → Machine → List ℕ → LineResponse → Type 0
+abbrev pub IsLineResponse : MayRead → Machine → List ℕ → Response → Type 0
 IsLineResponse may_read machine line response = IsResponse may_read machine (asked_by line) response
 
 -- a line asks for a command
@@ -189,7 +148,7 @@ abbrev pub LineInvokes : MayRead → List ℕ → Command → Type 0
 LineInvokes may_read line command = Invokes may_read (asked_by line) command
 
 -- one thing is said, and then another; the greater status is that of both
-abbrev pub followed : LineResponse → LineResponse → LineResponse
+abbrev pub followed : Response → Response → Response
 followed first later = record {
   text = first.text ++ later.text;
   machine = later.machine;
@@ -197,10 +156,10 @@ followed first later = record {
 }
 
 -- what is said to lines in their order, from this state of the office on
-abbrev pub Runs : MayRead → Machine → List (List ℕ) → LineResponse → Type 0
+abbrev pub Runs : MayRead → Machine → List (List ℕ) → Response → Type 0
 Runs may_read machine [] whole = whole ≡ no_response machine
 Runs may_read machine (line ∷ lines) whole =
-    (response later : LineResponse) × IsLineResponse may_read machine line response × Runs may_read response.machine lines later × (whole ≡ followed response later)
+    (response later : Response) × IsLineResponse may_read machine line response × Runs may_read response.machine lines later × (whole ≡ followed response later)
 
 -- a run that ended with its input: what is said to each line was written, in order; the office is as it is after the lines, and the status is the greatest
 abbrev pub RunEnds : MayRead → List ℕ → Option (List ℕ) → Option (List ℕ) → Machine → Machine → ℕ → Type 0
@@ -239,8 +198,8 @@ WereActedOn seen left lines =
 pub record StopsWithin (may_read : MayRead) (lines : List (List ℕ)) (before : Machine) (text : List ℕ) (after : Machine) (standing : Standing) : Type 0 where
   pub earlier : List (List ℕ)
   pub last : List ℕ
-  pub answered : LineResponse
-  pub response : LineResponse
+  pub answered : Response
+  pub response : Response
   pub written : ℕ
   pub parts : lines ≡ earlier ++ last ∷ []
   pub runs : Runs may_read before earlier answered
@@ -253,7 +212,7 @@ pub record StopsWithin (may_read : MayRead) (lines : List (List ℕ)) (before : 
 pub record StopsBeforeReply (may_read : MayRead) (lines : List (List ℕ)) (before : Machine) (text : List ℕ) (after : Machine) : Type 0 where
   pub earlier : List (List ℕ)
   pub last : List ℕ
-  pub answered : LineResponse
+  pub answered : Response
   pub command : Command
   pub parts : lines ≡ earlier ++ last ∷ []
   pub runs : Runs may_read before earlier answered
@@ -265,8 +224,8 @@ pub record StopsBeforeReply (may_read : MayRead) (lines : List (List ℕ)) (befo
 pub record StopsAfter (may_read : MayRead) (lines : List (List ℕ)) (before : Machine) (text : List ℕ) (after : Machine) (standing : Standing) : Type 0 where
   pub earlier : List (List ℕ)
   pub last : List ℕ
-  pub answered : LineResponse
-  pub response : LineResponse
+  pub answered : Response
+  pub response : Response
   pub parts : lines ≡ earlier ++ last ∷ []
   pub runs : Runs may_read before earlier answered
   pub refused : IsRefused may_read answered.machine (asked_by last) response standing

@@ -21,7 +21,8 @@ use Rattle.wb_streams.specs.Line.{is_long, with_line_feed}
 use Rattle.wb_streams.specs.Streams.{AppendsFront}
 use Rattle.wb_daemon.specs.Lists.{MayRead}
 use Rattle.wb_step.specs.Offices.{Accepts, Standing, Open}
-use Rattle.wb_daemon.specs.Run.{Asked, Fault, LineResponse, Request, file_fault_response, IsInvocationResponse, IsRefused, IsResponse, IsSaid, Invokes, asked_by, command_response, memory_response, query_response, EndsInput, RunStopsFor, answer_response, refusal_response}
+use Rattle.wb_api.specs.Responses.{command_response, memory_response, query_response, refusal_response, reply_response, Response}
+use Rattle.wb_daemon.specs.Run.{Asked, Fault, Request, file_fault_response, IsInvocationResponse, IsRefused, IsResponse, IsSaid, Invokes, asked_by, EndsInput, RunStopsFor, on_line}
 use Rattle.wb_daemon.specs.declared.answer.LineAnswer.{LineAnswer}
 use Rattle.wb_daemon.specs.declared.message.Cause.{Cause}
 use Rattle.wb_daemon.specs.declared.message.Cause.TheVariants.{Read, Write, Reply, Store, Lines, Room}
@@ -31,11 +32,11 @@ use Rattle.wb_daemon.specs.declared.run.Turn.{Turn}
 use Rattle.wb_daemon.specs.declared.run.Turn.TheVariants.{More, End, Stop}
 
 -- what is said by an answer after which the office is in this state
-abbrev pub response_of_answer : LineAnswer → Machine → LineResponse
+abbrev pub response_of_answer : LineAnswer → Machine → Response
 response_of_answer answer after = record { text = with_line_feed (cow_str_bytes answer.text); machine = after; status = answer.status }
 
 -- this is said by an answer, whatever state the office is in after it
-abbrev pub SaysEver : LineAnswer → (Machine → LineResponse) → Type 0
+abbrev pub SaysEver : LineAnswer → (Machine → Response) → Type 0
 SaysEver answer response = (after : Machine) → response_of_answer answer after ≡ response after
 
 -- what is told of what the office answered to a command of this name: the reply, or the refusal; or that there is no memory for it, which is not told of a reply to a
@@ -43,21 +44,26 @@ SaysEver answer response = (after : Machine) → response_of_answer answer after
 abbrev pub Tells : List ℕ → Bool → Result AnyReply Refusal → LineAnswer → Type 0
 Tells name is_counted (Ok reply) answer =
     (answer.stops ≡ false)
-    × (SaysEver answer (answer_response name (Ok reply)) ⊎ ((is_counted ≡ false) × SaysEver answer memory_response))
+    × (SaysEver answer (reply_response on_line name (Ok reply)) ⊎ ((is_counted ≡ false) × SaysEver answer (memory_response on_line)))
 Tells name is_counted (Err refusal) answer =
     (answer.stops ≡ is_of_store refusal)
-    × ((¬ (refusal ≡ refusal_Memory) × SaysEver answer (λ after. refusal_response after refusal))
-    ⊎ (((refusal ≡ refusal_Memory) ⊎ (is_plain refusal ≡ false)) × SaysEver answer memory_response))
+    × ((¬ (refusal ≡ refusal_Memory) × SaysEver answer (λ after. refusal_response on_line after refusal))
+    ⊎ (((refusal ≡ refusal_Memory) ⊎ (is_plain refusal ≡ false)) × SaysEver answer (memory_response on_line)))
+
+-- whether what was asked of an office was refused since it is closed or since its store failed
+abbrev pub is_refused_by_store : {X : Type 0} → Result X Refusal → Bool
+is_refused_by_store (Ok x) = false
+is_refused_by_store (Err refusal) = is_of_store refusal
 
 -- what may be said to a command: that there is no memory for it is possible too
-abbrev pub IsCommandResponseOrMemory : Machine → Command → LineResponse → Type 0
+abbrev pub IsCommandResponseOrMemory : Machine → Command → Response → Type 0
 IsCommandResponseOrMemory machine command response =
-    (response ≡ command_response machine command) ⊎ (MayLackMemory machine command × (response ≡ memory_response machine))
+    (response ≡ command_response on_line machine command) ⊎ (MayLackMemory machine command × (response ≡ memory_response on_line machine))
 
 -- what may be said to a query: that there is no memory for it is possible too, if no name in it is malformed
-abbrev pub IsQueryResponseOrMemory : Machine → Query → LineResponse → Type 0
+abbrev pub IsQueryResponseOrMemory : Machine → Query → Response → Type 0
 IsQueryResponseOrMemory machine query response =
-    (response ≡ query_response machine query) ⊎ ((has_malformed_name query ≡ false) × (response ≡ memory_response machine))
+    (response ≡ query_response on_line machine query) ⊎ ((has_malformed_name query ≡ false) × (response ≡ memory_response on_line machine))
 
 -- why the answer to what a line asks for may be that memory ran out: a command or a query as above, and files take memory
 abbrev pub MayLackMemoryFor : Machine → Invocation → Type 0
@@ -67,15 +73,15 @@ MayLackMemoryFor machine (invocation_Merge sources parts) = ⊤
 MayLackMemoryFor machine (invocation_Report arch file) = ⊤
 
 -- what may be said to what a line asks for: that there is no memory for it is possible too
-abbrev pub IsInvocationResponseOrMemory : MayRead → Machine → Invocation → LineResponse → Type 0
+abbrev pub IsInvocationResponseOrMemory : MayRead → Machine → Invocation → Response → Type 0
 IsInvocationResponseOrMemory may_read machine invocation response =
-    IsInvocationResponse may_read machine invocation response ⊎ (MayLackMemoryFor machine invocation × (response ≡ memory_response machine))
+    IsInvocationResponse may_read machine invocation response ⊎ (MayLackMemoryFor machine invocation × (response ≡ memory_response on_line machine))
 
 -- what may be said to a command that a file was read for: it gave it, or it is at fault, or there is no memory for it
-abbrev pub IsMadeResponse : {E : Type 0} → Result (Option Command) E → Machine → LineResponse → Type 0
+abbrev pub IsMadeResponse : {E : Type 0} → Result (Option Command) E → Machine → Response → Type 0
 IsMadeResponse (Ok (Some command)) machine response = IsCommandResponseOrMemory machine command response
 IsMadeResponse (Ok None) machine response = response ≡ file_fault_response machine
-IsMadeResponse (Err lack) machine response = response ≡ memory_response machine
+IsMadeResponse (Err lack) machine response = response ≡ memory_response on_line machine
 
 -- what words were read as: they ask for this, or for nothing that there is, or there was no memory to read them
 abbrev pub IsReadAs : Asked → Result Invocation WordsFault → Type 0
@@ -91,7 +97,7 @@ Answers may_read asked before after old new status =
 -- what was asked was acted on, but what is said to it was not written whole
 abbrev pub AnswersInPart : MayRead → Asked → Machine → Machine → Standing → Option (List ℕ) → Option (List ℕ) → Type 0
 AnswersInPart may_read asked before after standing old new =
-    (response : LineResponse) × IsSaid may_read before asked response standing × (after ≡ response.machine) × AppendsFront old new response.text
+    (response : Response) × IsSaid may_read before asked response standing × (after ≡ response.machine) × AppendsFront old new response.text
 
 -- a command was asked for and accepted, but nothing of the reply was written
 abbrev pub LacksReply : MayRead → Asked → Machine → Machine → Option (List ℕ) → Option (List ℕ) → Type 0
@@ -101,7 +107,7 @@ LacksReply may_read asked before after old new =
 -- what was asked was answered: it was refused since the store failed or the office is closed
 abbrev pub AnswersLast : MayRead → Asked → Machine → Machine → Standing → Option (List ℕ) → Option (List ℕ) → Type 0
 AnswersLast may_read asked before after standing old new =
-    (response : LineResponse) × IsRefused may_read before asked response standing × (after ≡ response.machine) × Appends old new response.text
+    (response : Response) × IsRefused may_read before asked response standing × (after ≡ response.machine) × Appends old new response.text
 
 -- why a run stops at what was asked: a write failed, or there is no memory for the reply, or the store failed
 abbrev pub StopsAt : MayRead → Asked → Machine → Machine → Standing → Option (List ℕ) → Option (List ℕ) → Cause → Type 0

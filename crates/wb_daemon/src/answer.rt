@@ -2,12 +2,13 @@
 ghost use Rattle.std.specs.Prelude.{◌≡◌, ◌≤◌, IfSome, IsOk, None, Some, Ok, false, true};
 ghost use Rattle.wb_daemon.specs.Lists.{MayReadLess};
 ghost use Rattle.wb_step.specs.Offices.{Accepts, Failed, InDoubt, Leads, Reaches};
-ghost use Rattle.wb_daemon.specs.Run.{file_fault_response, line_fault_response, memory_response, Asked, Invokes, InvokesAs, IsInvocationRefused};
-ghost use Rattle.wb_daemon.specs.Run.{IsRefused, IsRefusedByStore, IsResponse};
+ghost use Rattle.wb_api.specs.Responses.{IsFoundAnswer, IsRefusedByStore, memory_response};
+ghost use Rattle.wb_daemon.specs.Run.{file_fault_response, line_fault_response, Asked, Invokes, InvokesAs, IsInvocationRefused, on_line};
+ghost use Rattle.wb_daemon.specs.Run.{IsRefused, IsResponse};
 ghost use Rattle.wb_states.specs.Machine.{Machine};
 ghost use Rattle.wb_states.specs.declared.command.Command.{Command};
 ghost use Rattle.wb_daemon.specs.Turn.{response_of_answer, IsInvocationResponseOrMemory, IsCommandResponseOrMemory};
-ghost use Rattle.wb_daemon.specs.Turn.{IsMadeResponse, IsQueryResponseOrMemory, IsReadAs, Tells};
+ghost use Rattle.wb_daemon.specs.Turn.{is_refused_by_store, IsMadeResponse, IsQueryResponseOrMemory, IsReadAs, Tells};
 ghost use Rattle.wb_words.specs.declared.fault.WordsFault.TheVariants.{NoCommand, Memory};
 ghost use Rattle.wb_words.specs.declared.words.Invocation.TheVariants.{Merge as invocation_Merge};
 
@@ -18,7 +19,7 @@ use std::alloc::{AllocError, Global};
 use std::borrow::CowStr;
 use wb_api::{file_fault_json, line_fault_json, query_json, refusal_json, reply_json};
 use wb_archive::MergeFrom;
-use wb_states::{Command, Query, Refusal, Reply};
+use wb_states::{Answer, Command, Query, Refusal, Reply};
 use wb_step::CarryOut;
 use wb_words::{Invocation, PartNames, WordsFault};
 
@@ -73,12 +74,36 @@ fn answer_to<O: CarryOut>(alloc: Global, office: &mut O, command: &Command) -> O
         Accepts before command.now after) }
     ensures stops { IfSome result (λ answer. answer.stops ≡ true
         → Leads O.is_clean O.is_closed O.stands_at O.leaves office.old office.new (λ before after standing.
-        IsRefusedByStore before (InDoubt command.now) (response_of_answer answer after) standing)) }
+        IsRefusedByStore on_line before (InDoubt command.now) (response_of_answer answer after) standing)) }
 {
     let accepted = office.accepted_count();
     let answered = office.carry_out(command);
     let is_counted = office.accepted_count() != accepted;
     tell(alloc, command.name(), is_counted, answered)
+}
+
+/// What the office found for a query, or its refusal, with its status. That memory ran out is the answer only if the office
+/// said so, or if there is none for the text.
+fn found_answer(alloc: Global, found: Result<Answer, Refusal>) -> LineAnswer
+    ensures value { (machine : Machine) → IsFoundAnswer on_line machine found (response_of_answer result machine) }
+    ensures status { result.status ≤ 3 }
+    ensures stops { result.stops ≡ is_refused_by_store found }
+{
+    match found {
+        Ok(found) => match query_json(alloc, &found) {
+            Ok(text) => LineAnswer {
+                text: CowStr::Owned(text),
+                status: ACCEPTED,
+                stops: false,
+            },
+            Err(_) => memory_answer(alloc),
+        },
+        Err(refusal) => LineAnswer {
+            text: refusal_json(alloc, &refusal),
+            status: REFUSED,
+            stops: refusal.is_of_store(),
+        },
+    }
 }
 
 /// What the office found for a query, or its refusal, with its status. If there is no memory for its text, it says so: the
@@ -91,29 +116,15 @@ fn answer_query<O: CarryOut>(alloc: Global, office: &mut O, query: &Query) -> Li
         IsQueryResponseOrMemory before query.now (response_of_answer result after)) }
     ensures stops { result.stops ≡ true
         → Leads O.is_clean O.is_closed O.stands_at O.leaves office.old office.new (λ before after standing.
-        IsRefusedByStore before Failed (response_of_answer result after) standing) }
+        IsRefusedByStore on_line before Failed (response_of_answer result after) standing) }
 {
-    match office.ask(query) {
-        Ok(found) => match query_json(alloc, &found) {
-            Ok(text) => LineAnswer {
-                text: CowStr::Owned(text),
-                status: ACCEPTED,
-                stops: false,
-            },
-            Err(_) => memory_answer(alloc),
-        },
-        Err(Refusal::Memory) => memory_answer(alloc),
-        Err(refusal) => LineAnswer {
-            text: refusal_json(alloc, &refusal),
-            status: REFUSED,
-            stops: refusal.is_of_store(),
-        },
-    }
+    let found = office.ask(query);
+    found_answer(alloc, found)
 }
 
 /// The answer if memory ran out, which takes none.
 fn memory_answer(alloc: Global) -> LineAnswer
-    ensures value { (machine : Machine) → response_of_answer result machine ≡ memory_response machine }
+    ensures value { (machine : Machine) → response_of_answer result machine ≡ memory_response on_line machine }
     ensures status { result.status ≤ 3 }
     ensures stops { result.stops ≡ false }
 {
@@ -167,7 +178,7 @@ fn answer_made<O: CarryOut>(
     ensures stops { IfSome result (λ answer. answer.stops ≡ true
         → Leads O.is_clean O.is_closed O.stands_at O.leaves office.old office.new (λ before after standing.
         (command : Command) × (made ≡ Ok (Some command))
-        × IsRefusedByStore before (InDoubt command) (response_of_answer answer after) standing)) }
+        × IsRefusedByStore on_line before (InDoubt command) (response_of_answer answer after) standing)) }
 {
     match made {
         Ok(Some(command)) => answer_to(alloc, office, &command),
@@ -256,7 +267,7 @@ fn unread_answer(alloc: Global, fault: &WordsFault) -> LineAnswer
     ensures fault { fault.now ≡ NoCommand → (machine : Machine)
         → response_of_answer result machine ≡ line_fault_response machine }
     ensures memory { fault.now ≡ Memory → (machine : Machine)
-        → response_of_answer result machine ≡ memory_response machine }
+        → response_of_answer result machine ≡ memory_response on_line machine }
     ensures status { result.status ≤ 3 }
     ensures stops { result.stops ≡ false }
 {

@@ -4,7 +4,8 @@ ghost use Rattle.wb_states.specs.Machine.{Machine};
 ghost use Rattle.wb_daemon.specs.Answered.{HasLines, is_answered};
 ghost use Rattle.wb_step.specs.Offices.{Standing};
 ghost use Rattle.wb_daemon.specs.Replays.{IsReplay, IsReplayCut};
-ghost use Rattle.wb_daemon.specs.Run.{Runs, LineResponse, StopsInLine};
+ghost use Rattle.wb_api.specs.Responses.{Response};
+ghost use Rattle.wb_daemon.specs.Run.{Runs, StopsInLine};
 
 use crate::lists::Lists;
 
@@ -12,7 +13,7 @@ use crate::lists::Lists;
 /// was cut off within or before the answer to a line. So what holds of every list of commands holds of
 /// every run.
 pub fn runs_are_replays<L: Lists>(lists: &L)
-    ensures state { (machine : Machine) (lines : List (List ℕ)) (whole : LineResponse)
+    ensures state { (machine : Machine) (lines : List (List ℕ)) (whole : Response)
         → Runs (L.may_read lists.now) machine lines whole
         → IsReplay (L.may_read lists.now) machine lines whole }
     ensures stops { (seen : List ℕ) (left : Option (List ℕ)) (machine : Machine) (text : List ℕ)
@@ -24,7 +25,7 @@ pub fn runs_are_replays<L: Lists>(lists: &L)
 /// What is said to lines has one line, ended by its line feed, for each that is answered: for each but
 /// those of spaces and tabs alone.
 pub fn each_line_has_one_answer<L: Lists>(lists: &L)
-    ensures { (machine : Machine) (lines : List (List ℕ)) (whole : LineResponse)
+    ensures { (machine : Machine) (lines : List (List ℕ)) (whole : Response)
         → Runs (L.may_read lists.now) machine lines whole
         → HasLines (length (filter is_answered lines)) whole.text }
 {}

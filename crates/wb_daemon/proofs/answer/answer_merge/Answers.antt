@@ -65,7 +65,7 @@ returns-in-Ok-Some-clause-stops g c =
             before,
             Shut,
             c.merge_from-answered.ensures.closed before clean stands is,
-            inr (left.0, left.1.0, inl (said before, refl)),
+            inr (left.0, left.1.0, inl (inl (said before), refl)),
           )
       | inr (fault, (is, said)) ↦
           let doubt = c.merge_from-answered.ensures.store before clean stands fault is in

@@ -36,7 +36,7 @@ pub returns-clause-stops : goal.returns-clause-stops
 returns-clause-stops g c =
     IfSome_then c.tell.result c.tell.ensures.value (λ answer told stops before clean stands.
     elim (tells-store c.name.result.now _ c.carry_out-answered.result answer told stops) [
-      | inl (is, said) ↦ (before, Shut, c.carry_out-answered.ensures.closed before clean stands is, inl (said before, refl))
+      | inl (is, said) ↦ (before, Shut, c.carry_out-answered.ensures.closed before clean stands is, inl (inl (said before), refl))
       | inr (fault, (is, said)) ↦ (
         before,
         InDoubt c.args.command.now fault,
