@@ -1,6 +1,6 @@
 #!/usr/bin/env python3
 """Tests of `wb --store FILE run` on files that are damaged, that are not an office's, or whose rows are not those of an
-office, each in a folder of its own.
+office, each in a folder of its own: what becomes of them, and what a refused opening leaves.
 
     tools/tests/test_store_files.py [NAME..]     these tests, or all
 
@@ -8,16 +8,18 @@ From the environment: WB is the program, ./wb of this repository where it is not
 each random choice.
 """
 import contextlib
+import json
 import os
 import random
 import shutil
 import sqlite3
 import subprocess
 import sys
+import time
 from pathlib import Path
 
-from harness import SEED, WAIT, WB, Failure, answers_of, expect, main, run
-from store_runs import TWO_ARCHS, Session, edit, filled, page_size, refusal_of, rows_of
+from harness import HERE, SEED, WAIT, WB, Failure, LeftOut, answers_of, expect, limit_files, main, program, run
+from store_runs import TWO_ARCHS, Session, edit, filled, page_size, refusal_of, rows_of, seal
 
 
 # ---- files of a store
@@ -91,7 +93,7 @@ def refuses_text(folder):
     ):
         (folder / "store").write_bytes(text)
         met = meets_bad_file(folder, f"{text[:20]}")
-        expect(len(text) == 1 or isinstance(met, str), f"{text[:20]} of {len(text)} bytes runs as an office")
+        expect(isinstance(met, str), f"{text[:20]} of {len(text)} bytes runs as an office")
         for name in os.listdir(folder):
             (folder / name).unlink()
 
@@ -572,6 +574,239 @@ def opens_what_a_link_leads_to(folder):
     expect(os.stat(f"{store}.lock").st_mode & 0o777 == 0o600, "others may open the lock")
 
 
+# ---- what becomes of a file
+
+
+def opened(folder, *words):
+    """The status, the answer and the messages of the program over the file `store`, with these words or with a run that
+    reads no line."""
+    done = subprocess.run(
+        [WB, "--store", "store", *(words or ["run"])], cwd=folder, stdin=subprocess.DEVNULL, capture_output=True,
+        timeout=WAIT, check=False,
+    )
+    return done.returncode, done.stdout, done.stderr.decode()
+
+
+def script(folder, text):
+    """A database of these statements, made by sqlite3, whose pages have no checksums."""
+    with contextlib.closing(sqlite3.connect(folder / "store")) as database:
+        database.executescript(text)
+
+
+def script_with_sums(folder, text):
+    """The same in a file whose pages have checksums."""
+    opened(folder)
+    edit(folder / "store", *(f"DROP TABLE {name}" for name in OFFICE_TABLES))
+    script(folder, text)
+    seal(folder / "store")
+
+
+def frames(folder):
+    """The log of an office that was killed, with its frames, made in a folder beside this one."""
+    place = folder.with_name(f"{folder.name} log")
+    place.mkdir()
+    session = Session(place)
+    session.ask(TWO_ARCHS[0])
+    session.kill()
+    return (place / "store-wal").read_bytes()
+
+
+FORMATS = {number: (HERE / "stores" / f"format-{number}.sql").read_text() for number in (1, 2)}
+
+# What stands at the file's name: how it is made in an empty folder.
+FILES = {
+    "no file": lambda folder: None,
+    "an empty file": lambda folder: (folder / "store").touch(),
+    "a text": lambda folder: (folder / "store").write_text("root:x:0:0:root:/root:/bin/bash\n" * 30),
+    "one letter": lambda folder: (folder / "store").write_text("x"),
+    "a byte 0": lambda folder: (folder / "store").write_bytes(b"\0"),
+    "tables of others": lambda folder: edit(folder / "store", *TABLES_OF_OTHERS),
+    "tables of others with checksums": lambda folder: script_with_sums(folder, ";".join(TABLES_OF_OTHERS)),
+    "an office": opened,
+    "an office without checksums": lambda folder: script(folder, FORMATS[2]),
+    "format 1": lambda folder: script_with_sums(folder, FORMATS[1]),
+    "format 1 without checksums": lambda folder: script(folder, FORMATS[1]),
+    "a table Arch": lambda folder: script_with_sums(folder, "CREATE TABLE Arch(name TEXT)"),
+    "a table Arch without checksums": lambda folder: script(folder, "CREATE TABLE Arch(name TEXT)"),
+}
+
+# What stands at its log's name, where the file did not bring its own.
+LOGS = {
+    "no log": lambda folder: None,
+    "an empty log": lambda folder: b"",
+    "a log without frames": lambda folder: frames(folder)[:41],
+    "a log with frames": frames,
+}
+
+BEGINS = "store was empty or not there: a new office begins in it\n"
+BEGINS_BESIDE = "store had no office: a new one begins in it, beside what it holds\n"
+LOST = "store cannot be opened: it is empty or not there, and its log store-wal holds commits\n"
+NO_DATABASE = "store cannot be opened: it is not the database of an office\n"
+OF_OTHERS = "store cannot be opened: it is a database of another program, whose pages have no checksums\n"
+OF_FIRST = "store is of format 1: opening it takes seconds for 10,000 records, and minutes for 35,000\n"
+UPGRADED = "store was brought over from format 1 into format 2\n"
+UNSUMMED = (
+    "another program made store: its pages have no checksums and get none, so a byte that a disk changes may stay "
+    "unseen\n"
+)
+
+# The table of docs/operations/FILE.md: the file, its log, the fault, and what is said. A database has its own log.
+BECOMES = [
+    *((file, log, None, [BEGINS]) for file in ("no file", "an empty file") for log in list(LOGS)[:3]),
+    *((file, "a log with frames", "NotOffice", [LOST]) for file in ("no file", "an empty file")),
+    *((file, log, "NotOffice", [NO_DATABASE]) for file in ("a text", "one letter") for log in list(LOGS)[:3]),
+    ("a byte 0", "no log", None, [BEGINS_BESIDE]),
+    ("tables of others", "no log", "NotOffice", [OF_OTHERS]),
+    ("tables of others with checksums", "no log", None, [BEGINS_BESIDE]),
+    ("an office", "no log", None, []),
+    ("an office without checksums", "no log", None, []),
+    ("format 1", "no log", None, [OF_FIRST, UPGRADED]),
+    ("format 1 without checksums", "no log", None, [OF_FIRST, UPGRADED, UNSUMMED]),
+    ("a table Arch", "no log", "NotOffice", [NO_DATABASE]),
+    ("a table Arch without checksums", "no log", "NotOffice", [NO_DATABASE]),
+]
+
+
+def contents(folder):
+    """Each file of a folder with its bytes; what is no file has none."""
+    return {path.name: path.read_bytes() if path.is_file() else None for path in folder.iterdir()}
+
+
+def becomes_what_the_table_says(folder):
+    """Each file becomes what the table says, by a run, a command and a query, and one that is refused is left alone
+    with what stands beside it. A query changes no file that has an office."""
+    failed = []
+    for number, (file, log, fault, messages) in enumerate(BECOMES):
+        for words in ((), ("summary", "amd64"), ("add-arch", "arm64", "linux", "arm64")):
+            place = folder / f"{number} {len(words)}"
+            place.mkdir()
+            FILES[file](place)
+            beside = LOGS[log](place)
+            if beside is not None:
+                (place / "store-wal").write_bytes(beside)
+            (place / "store.lock").unlink(missing_ok=True)
+            before = contents(place)
+            status, said, errors = opened(place, *words)
+            is_query = words[:1] == ("summary",)
+            wanted = [text for text in messages if not (is_query and text in (UPGRADED, UNSUMMED))]
+            if errors != "".join(f"wb: {text}" for text in wanted):
+                failed.append(f"{file}, {log}, {words}: {errors!r} in place of {wanted}")
+            if fault is None and status not in (0, 1):
+                failed.append(f"{file}, {log}, {words}: {status}, {said}")
+            if fault is not None and (status, refusal_of(said)) != (3, fault):
+                failed.append(f"{file}, {log}, {words}: {status}, {said} in place of {fault}")
+            if fault is not None and contents(place) != before:
+                failed.append(f"{file}, {log}, {words}: it leaves {sorted(contents(place))} of {sorted(before)}")
+            has_office = file.startswith(("an office", "format 1"))
+            if is_query and has_office and contents(place)["store"] != before["store"]:
+                failed.append(f"{file}, {log}: a query changed the file")
+    expect(not failed, "; ".join(failed))
+    return f"{3 * len(BECOMES)} starts"
+
+
+def refused_places(folder):
+    """What is refused for its place, or for what stands beside it: the name, in a folder, of each."""
+    (folder / "here").mkdir()
+    os.mkfifo(folder / "pipe")
+    filled(folder)
+    (folder / "store.lock").unlink()
+    os.link(folder / "store", folder / "second")
+    (folder / "kept").write_bytes((folder / "store").read_bytes())
+    (folder / "kept-journal").write_bytes(JOURNAL)
+    (folder / "damaged").write_bytes((folder / "store").read_bytes()[:-4096])
+    (folder / "newer").write_bytes((folder / "kept").read_bytes())
+    edit(folder / "newer", "UPDATE office SET format = 3")
+    (folder / "link").symlink_to("nowhere")
+    return ["here", "pipe", "second", "kept", "damaged", "newer", "link", "not-there/store", ":memory:", "file:store"]
+
+
+def leaves_nothing_after_a_refusal(folder):
+    """A refused opening makes no file and changes none, whatever it is refused for. What was there before stays."""
+    for name in refused_places(folder):
+        before = contents(folder)
+        for words in (["run"], ["summary", "amd64"], ["add-arch", "arm64", "linux", "arm64"]):
+            done = subprocess.run(
+                [WB, "--store", name, *words], cwd=folder, stdin=subprocess.DEVNULL, capture_output=True, timeout=WAIT,
+                check=False,
+            )
+            expect(done.returncode == 3 and refusal_of(done.stdout), f"{name}, {words}: {done}")
+            left = contents(folder)
+            expect(left == before, f"{name}, {words}: it leaves {sorted(set(left) - set(before))}, or changed a file")
+    for kept in ("text", "text-wal", "text.lock"):
+        (folder / kept).write_bytes(b"" if kept != "text" else b"this is a text\n")
+        before = contents(folder)
+        done = subprocess.run(
+            [WB, "--store", "text", "run"], cwd=folder, stdin=subprocess.DEVNULL, capture_output=True, timeout=WAIT,
+            check=False,
+        )
+        expect(refusal_of(done.stdout) == "NotOffice" and contents(folder) == before, f"{kept} was there: {done}")
+
+
+def leaves_nothing_of_a_new_office(folder):
+    """An office for which there is no room on the disk leaves nothing, wherever its making ended: neither its file nor
+    the log, which would be taken for that of a lost file. Once there is room, it begins."""
+    refused = 0
+    for size in (0, 1, 40, 41, 4095, 4096, 4200, 20_000, 66_000, 262_000, 270_000, 300_000):
+        status, said = run(folder, [], prepare=limit_files(size))
+        if refusal_of(said):
+            refused += 1
+            expect(status == 3 and not list(folder.iterdir()), f"{size} bytes: it leaves {sorted(contents(folder))}")
+            continue
+        expect(status == 0, f"{size} bytes: {status}, {said}")
+        expect(answers_of(folder, TWO_ARCHS[:1])[0]["accepted"] == 1, f"{size} bytes: it is no office")
+        for path in folder.iterdir():
+            path.unlink()
+    expect(refused > 6, f"of 12 sizes {refused} are too small")
+    expect(answers_of(folder, TWO_ARCHS[:1])[0]["accepted"] == 1, "no office begins afterwards")
+
+
+def keeps_what_a_refused_upgrade_wrote(folder):
+    """An office of format 1 for whose upgrade there is no room stays with its log, and is brought over once there is
+    some."""
+    script(folder, FORMATS[1])
+    sizes = [page_size((folder / "store").read_bytes()) * count for count in range(1, 60, 4)]
+    refused = 0
+    for size in sizes:
+        status, said = run(folder, [], prepare=limit_files(size))
+        refused += bool(refusal_of(said))
+        expect(status in (0, 3), f"{size} bytes: {status}, {said}")
+    expect(refused > 1, f"of {len(sizes)} sizes {refused} are too small")
+    held = answers_of(folder, ["mine b1"])[0]["records"]
+    expect([record["source"] for record in held] == ["hello"], f"the builder holds {held}")
+
+
+def leaves_the_lock_of_another(folder):
+    """What is refused since another program has the file removes nothing."""
+    session = Session(folder)
+    session.ask(TWO_ARCHS[0])
+    before = contents(folder)
+    status, said, _ = opened(folder)
+    expect((status, refusal_of(said)) == (3, "InUse") and contents(folder) == before, f"{status}, {said}")
+    expect(session.end() == 0 and (folder / "store.lock").exists(), "the lock is gone")
+
+
+def passes_over_a_lock_that_lost_its_name(folder):
+    """A lock that another program removed before it was taken counts for nothing: who has it does not open the file
+    beside the one that has the new lock."""
+    if not shutil.which("strace"):
+        raise LeftOut("there is no strace, which holds the program between the opening of the lock and its taking")
+    answers_of(folder, TWO_ARCHS[:1])
+    words = ["strace", "-qq", "-o", "calls", "-e", "trace=flock", "-e", "inject=flock:delay_enter=3000000"]
+    held = subprocess.Popen(
+        [*words, program(), "--store", "store", "run"], cwd=folder, stdin=subprocess.DEVNULL, stdout=subprocess.PIPE,
+        stderr=subprocess.PIPE,
+    )
+    time.sleep(1)  # it has opened the lock, and waits for two seconds more before it takes it
+    (folder / "store.lock").unlink()
+    session = Session(folder)
+    session.ask(TWO_ARCHS[2])
+    said, errors = held.communicate(timeout=WAIT)
+    if b"ptrace" in errors or b"strace:" in errors:
+        raise LeftOut(f"strace cannot hold the program: {errors.decode().strip()}")
+    expect(refusal_of(said) == "InUse" and b"another program has it\n" in errors, f"{said}, {errors}")
+    expect(json.loads(session.ask(TWO_ARCHS[1]))["accepted"] == 3 and session.end() == 0, "the other program")
+
+
 TESTS = [
     refuses_text, empty_file_is_a_new_office, opens_what_a_link_leads_to, refuses_a_log_without_its_file, refuses_paths,
     refuses_another_programs_database, refuses_other_rows,
@@ -579,6 +814,10 @@ TESTS = [
 TESTS += [
     looks_at_the_format_first, names_the_bad_row, works_beside_others, makes_an_office_beside_others,
     makes_no_office_over_its_names,
+]
+TESTS += [
+    becomes_what_the_table_says, leaves_nothing_after_a_refusal, leaves_nothing_of_a_new_office,
+    keeps_what_a_refused_upgrade_wrote, leaves_the_lock_of_another, passes_over_a_lock_that_lost_its_name,
 ]
 TESTS += [cut_files, pages_of_zeroes, changed_bits, changed_bits_in_the_log]
 if __name__ == "__main__":

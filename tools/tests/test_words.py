@@ -1,15 +1,19 @@
 #!/usr/bin/env python3
 """Tests of single commands, which are words of the program itself, as `wb --store FILE next amd64 b1`: each subcommand
-beside the same line of a run, line faults before and after the store is opened, help, words that no line can have, and
-what becomes of the files.
+beside the same line of a run, line faults before and after the store is opened, help, what is said of refused words,
+words that no line can have, and what becomes of the files.
 
     tools/tests/test_words.py [NAME..]     these tests, or all
 
 From the environment: WB is the program, ./wb of this repository where it is not set.
 """
+import bz2
+import gzip
 import json
+import lzma
 import os
 import pty
+import re
 import subprocess
 import sys
 
@@ -271,19 +275,59 @@ def refuses_after_the_store_was_opened(folder):
     return f"{len(cases)} cases"
 
 
+# The two subcommands of the program alone.
+OWN = ["run", "serve"]
+
+# What help says of a subcommand: its usage, and the lines under it.
+ENTRY = re.compile(r"^  (wb \[--store FILE\] )?([a-z-]+)( .*)?\n( {10}.*\n)*", re.MULTILINE)
+
+
+def entries_of(text):
+    """What help says of each subcommand: its usage, with what stands under it; of `run` and `serve` also the paragraphs
+    about them."""
+    found = {match[2]: match[0] for match in ENTRY.finditer(text)}
+    paragraphs = text.split("\n\n")
+    for name in OWN:
+        about = [part for part in paragraphs if part.startswith((f"`wb {name}`", "With --journal"))]
+        found[name] += "".join(f"\n{part}\n" for part in about)
+    return {name: found[name] for name in [*GOOD, *OWN]}
+
+
 def helps_with_each_subcommand(folder):
-    """Help is the same text after each subcommand, and makes no file; after `--` its options are words."""
+    """Help on the program is one text, and help on a subcommand is what that says of it: after `help`, and for `--help`
+    and `-h` in its words. It makes no file; after `--` its options are words."""
     text = words(folder, "help")
-    expect(text[0] == 0 and text[2] == "", f"help: {text}")
-    asked = [["--help"], ["-h"], ["help", "queue"], ["help", "nothing"]]
-    for name, given in GOOD.items():
-        asked += [[name, "--help"], [name, "-h"], [name, *given, "-h"], ["--store", "store", name, "--help"]]
-    for given in asked:
+    expect(text[0] == 0 and text[2] == "" and text[1].startswith("The central office"), f"help: {text}")
+    for given in (["--help"], ["-h"], ["help", "nothing"], ["--store", "store", "-h"], ["--help", "next"]):
         expect(words(folder, *given) == text, f"{given}: {words(folder, *given)}")
+    entries = entries_of(text[1])
+    for name, entry in entries.items():
+        asked = [["help", name], ["help", name, "more"], [name, "--help"], [name, "-h"]]
+        asked += [["--store", "store", name, "--help"], ["--store=store", name, "-h"]]
+        asked += [[name, *GOOD[name], "-h"]] if name in GOOD else []
+        for given in asked:
+            expect(words(folder, *given) == (0, entry, ""), f"{given}: {words(folder, *given)} in place of {entry}")
+    expect("Example: next amd64 b1 --after 0" in entries["next"] and "take" not in entries["next"], entries["next"])
+    expect(entries["run"].count("\n\n") == 2 and "Answers the commands of its input" in entries["run"], entries["run"])
     expect(list(folder.iterdir()) == [], "a file was made")
     for given in (["queue", "a", "b", "-h"], ["queue", "-x", "-h"], ["queue", "--", "a", "b", "-h"]):
         expect(words(folder, *given)[:2] == (2, FAULT), f"{given}: {words(folder, *given)}")
     expect(words(folder, "queue", "--", "-h") == (1, BAD_NAME, ""), "an option after --")
+    return f"{len(entries)} subcommands"
+
+
+def says_where_the_store_comes(folder):
+    """Where `--store` comes after a subcommand, a second message says where it belongs; and nowhere else."""
+    hint = "wb: --store FILE comes before the subcommand: wb --store FILE run\n"
+    late = [["run", "--store", "f"], ["run", "--store=f"], ["serve", "--port", "1", "--store", "f"]]
+    late += [["next", "--store=f", "amd64", "b1"], ["--store", "f", "queue", "amd64", "--store", "g"]]
+    for given in late:
+        status, said, more = words(folder, *given)
+        expect((status, said) == (2, FAULT) and more.startswith("error: ") and more.endswith(hint), f"{given}: {more}")
+    for given in (["--store"], ["--store", "f"], ["run", "-x"], ["--store=f", "--store=g", "run"], ["frobnicate"]):
+        status, said, more = words(folder, *given)
+        expect((status, said) == (2, FAULT) and "comes before" not in more, f"{given}: {more}")
+    expect(list(folder.iterdir()) == [], "a file was made")
 
 
 def errors_at_a_terminal(folder, *given):
@@ -311,11 +355,149 @@ def says_what_takes_seconds_at_a_terminal(folder):
     said = "wb: reading Sources, 16 MB\nwb: reading Sources, 16 of 16 MB\n"
     expect(errors_at_a_terminal(folder, *merge) == said, f"{errors_at_a_terminal(folder, *merge)}")
     expect(words(folder, *merge) == (1, '{"code":1,"refused":"UnknownArch"}\n', ""), f"{words(folder, *merge)}")
-    (folder / "large").write_bytes(b"this is no database\n" * 1_650_000)
+    (folder / "large").write_bytes(b"SQLite format 3\0" + bytes(33_000_000))
     said = errors_at_a_terminal(folder, "--store", "large", "summary", "amd64")
     expect(said.startswith("wb: opening large, 33 MB\n"), said)
     expect("opening" not in stored(folder, "summary", "amd64")[2], "it is said elsewhere")
     expect("opening" not in words(folder, "--store", "large", "summary", "amd64")[2], "it is said elsewhere")
+
+
+# What each argument has to be.
+ARCH = "1 to 40 lower-case letters, digits and -, the first no -, and not all, any or source"
+OS_CPU = "1 to 20 lower-case letters and digits, and not any"
+SOURCE = "2 to 200 lower-case letters, digits, +, - and ., the first a letter or a digit"
+BUILDER = "1 to 64 letters, digits, ., _ and -, the first a letter or a digit"
+LABEL = "1 to 64 characters from ! to ~"
+STATE = (
+    "Needs-Build, Building, Built, Uploaded, Installed, Dep-Wait, BD-Uninstallable, Failed, Not-For-Us or "
+    "Build-Attempted"
+)
+NOT_A_VERSION = "the version is malformed: byte 1 may not stand in an upstream version"
+EMPTY_VERSION = "the version is malformed: the version is empty"
+
+# Words that are refused, the name of the refusal, and what is said of it at a terminal.
+REFUSED_WORDS = [
+    (["add-arch", "all", "linux", "amd64"], "BadName", f'NAME is "all", and has to be {ARCH}'),
+    (["add-arch", "i386", "Linux", "i386"], "BadName", f'OS is "Linux", and has to be {OS_CPU}'),
+    (["add-arch", "i386", "linux", "any"], "BadName", f'CPU is "any", and has to be {OS_CPU}'),
+    (["add-builder", "b 1", "amd64"], "BadName", f'NAME is "b 1", and has to be {BUILDER}'),
+    (["add-builder", "b1", "a_b"], "BadName", f'ARCH is "a_b", and has to be {ARCH}'),
+    (["enter", "-", "new", "1.0", "a", "b"], "BadName", f'ARCH is "-", and has to be {ARCH}'),
+    (["enter", "amd64", "x", "1.0", "optional", "devel"], "BadName", f'SOURCE is "x", and has to be {SOURCE}'),
+    (["enter", "amd64", "new", "1.0", "", "devel"], "BadName", f'PRIORITY is "", and has to be {LABEL}'),
+    (["enter", "amd64", "new", "1.0", "a", "b c"], "BadName", f'SECTION is "b c", and has to be {LABEL}'),
+    (["enter", "amd64", "new", "1_0", "a", "b"], "BadVersion", f'VERSION is "1_0": {NOT_A_VERSION}'),
+    (["next", "AMD64", "b1"], "BadName", f'ARCH is "AMD64", and has to be {ARCH}'),
+    (["next", "amd64", ".b"], "BadName", f'BUILDER is ".b", and has to be {BUILDER}'),
+    (["take", "any", "b1", "hello", "1.0"], "BadName", f'ARCH is "any", and has to be {ARCH}'),
+    (["take", "amd64", "b/1", "hello", "1.0"], "BadName", f'BUILDER is "b/1", and has to be {BUILDER}'),
+    (["take", "amd64", "b1", "Hello", "1.0"], "BadName", f'SOURCE is "Hello", and has to be {SOURCE}'),
+    (["take", "amd64", "b1", "hello", ""], "BadVersion", f'VERSION is "": {EMPTY_VERSION}'),
+    (["waits", "1", "libc6 ("], "BadRelations", "RELATIONS: the relations are refused: an operator is missing or bad"),
+    (["attempted", "1", "x" * 1001], "TextTooLong", "REASON has 1001 bytes, and may have 1000"),
+    (["give-back", "amd64", "h\x1b", "1.0"], "BadName", f'SOURCE is "h\\u{{1b}}", and has to be {SOURCE}'),
+    (["give-back", "amd64", "hello", "1_0"], "BadVersion", f'VERSION is "1_0": {NOT_A_VERSION}'),
+    (["dep-wait", "amd64", "h", "1.0", "libc6"], "BadName", f'SOURCE is "h", and has to be {SOURCE}'),
+    (["dep-wait", "amd64", "hello", "1_0", "libc6"], "BadVersion", f'VERSION is "1_0": {NOT_A_VERSION}'),
+    (
+        ["dep-wait", "amd64", "hello", "1.0", "libc6 [i386]"], "BadRelations",
+        "RELATIONS: nothing of the relations is left for the architecture",
+    ),
+    (["fail", "amd64", "h", "1.0"], "BadName", f'SOURCE is "h", and has to be {SOURCE}'),
+    (["fail", "amd64", "hello", "1_0"], "BadVersion", f'VERSION is "1_0": {NOT_A_VERSION}'),
+    (["fail", "amd64", "hello", "1.0", "x" * 1001], "TextTooLong", "NOTE has 1001 bytes, and may have 1000"),
+    (["not-for-us", "all", "hello", "1.0"], "BadName", f'ARCH is "all", and has to be {ARCH}'),
+    (["rebuild", "amd64", "h", "1.0", "1"], "BadName", f'SOURCE is "h", and has to be {SOURCE}'),
+    (["rebuild", "amd64", "hello", "1_0", "1"], "BadVersion", f'VERSION is "1_0": {NOT_A_VERSION}'),
+    (
+        ["rebuild", "amd64", "hello", "1.0", "0"], "BadNumber",
+        "NUMBER is 0, and has to be from 1 to 999, and above that of the last rebuild",
+    ),
+    (["rebuild", "amd64", "hello", "1.0", "1", "x" * 1001], "TextTooLong", "MESSAGE has 1001 bytes, and may have 1000"),
+    (["build-priority", "all", "hello", "1.0", "1"], "BadName", f'ARCH is "all", and has to be {ARCH}'),
+    (["build-priority", "amd64", "hello", "1_0", "1"], "BadVersion", f'VERSION is "1_0": {NOT_A_VERSION}'),
+    (
+        ["build-priority", "amd64", "hello", "1.0", "--", "-1001"], "BadNumber",
+        "VALUE is -1001, and has to be from -1000 to 1000",
+    ),
+    (["merge", "Sources", "amd64=Packages", "all=Packages"], "BadName", f'ARCH is "all", and has to be {ARCH}'),
+    (["report", "source", "report"], "BadName", f'ARCH is "source", and has to be {ARCH}'),
+    (["queue", "a b"], "BadName", f'ARCH is "a b", and has to be {ARCH}'),
+    (["summary", "all"], "BadName", f'ARCH is "all", and has to be {ARCH}'),
+    (["by-state", "all", "Building"], "BadName", f'ARCH is "all", and has to be {ARCH}'),
+    (["by-state", "amd64", "needs-build"], "BadName", f'STATE is "needs-build", and has to be {STATE}'),
+    (["item", "amd64", "h"], "BadName", f'SOURCE is "h", and has to be {SOURCE}'),
+    (["depends", "", "hello"], "BadName", f'ARCH is "", and has to be {ARCH}'),
+    (["mine", "b=1"], "BadName", f'BUILDER is "b=1", and has to be {BUILDER}'),
+]
+
+# What is refused for another reason than a word's form: nothing is said of it.
+REFUSED_OTHERWISE = [
+    ["add-arch", "amd64", "linux", "amd64"], ["next", "armhf", "b1"], ["next", "amd64", "b9"], ["built", "7"],
+    ["queue", "armhf"], ["item", "amd64", "none"], ["merge", "Sources", "amd64=Packages", "amd64=Packages"],
+]
+
+
+def names_refused_words_at_a_terminal(folder):
+    """At a terminal standard error names the word that is refused and its form, of each command and query; elsewhere,
+    and of what is refused for another reason, it says nothing. The answer is the same."""
+    fill(folder)
+    answers_of(folder, [*BEGIN, "next amd64 b1"])
+    for given, refusal, message in REFUSED_WORDS:
+        status, said, more = stored(folder, *given)
+        is_refused = status == 1 and json.loads(said)["refused"] == refusal
+        expect(is_refused and more == "", f"{given[:5]}: {status} {said} {more}")
+        at_terminal = errors_at_a_terminal(folder, "--store", "store", *given)
+        expect(at_terminal == f"wb: {given[0]}: {message}\n", f"{given[:5]}: {at_terminal!r} in place of {message!r}")
+        expect(stored(folder, *given) == (status, said, more), f"{given[:5]}: another answer")
+    for given in REFUSED_OTHERWISE:
+        status, said, _ = stored(folder, *given)
+        at_terminal = errors_at_a_terminal(folder, "--store", "store", *given)
+        expect((status, at_terminal) == (1, ""), f"{given}: {status}, {said}, {at_terminal!r}")
+    lines = "".join(f"{' '.join(given)}\n" for given in (["enter", "amd64", "x", "1", "a", "b"], ["summary", "all"]))
+    here, there = pty.openpty()
+    done = subprocess.run(
+        [WB, "--store", "store", "run"], cwd=folder, input=lines.encode(), stdout=subprocess.PIPE, stderr=there,
+        timeout=WAIT, check=False,
+    )
+    os.close(there)
+    said = os.read(here, 10000).decode().replace("\r\n", "\n")
+    os.close(here)
+    expect((done.returncode, done.stdout.decode()) == (1, 2 * BAD_NAME), f"lines: {done}")
+    wanted = f'wb: enter: SOURCE is "x", and has to be {SOURCE}\nwb: summary: ARCH is "all", and has to be {ARCH}\n'
+    expect(said == wanted, f"lines: {said!r}")
+    left_out = set(GOOD) - {given[0] for given, *_ in REFUSED_WORDS}
+    expect(left_out == {"built", "uploaded", "put-back"}, f"no refused word of {left_out}")  # these have a number alone
+    return f"{len(REFUSED_WORDS)} refusals"
+
+
+def names_compressed_lists(folder):
+    """A list or a report that xz, gzip, bzip2 or zstd compressed is named as such on standard error, and refused as
+    ever."""
+    fill(folder)
+    answers_of(folder, BEGIN)
+    text = SOURCES.encode()
+    zstd = bytes.fromhex("28b52ffd2000010000")  # a frame without a byte in it
+    pressed = {"xz": lzma.compress(text), "gzip": gzip.compress(text), "bzip2": bz2.compress(text), "zstd": zstd}
+    for program, data in pressed.items():
+        name = f"list.{program}"
+        (folder / name).write_bytes(data)
+        wanted = f"wb: {name} is compressed by {program}, and has to be unpacked first\n"
+        for given in (["merge", name, "amd64=Packages"], ["merge", "Sources", f"amd64={name}"]):
+            status, said, more = stored(folder, *given)
+            refused = json.loads(said)
+            ends = [refused, *refused.get("parts", [])]
+            expect(
+                status in (0, 1) and any(end.get("refused") == "BadListing" for end in ends) and more == wanted,
+                f"{given}: {status}, {said}, {more!r}",
+            )
+        status, said, more = stored(folder, "report", "amd64", name)
+        expect((status, said) == (3, '{"fault":"file"}\n') or status == 1, f"report of {name}: {status}, {said}")
+        expect(more.startswith(wanted), f"report of {name}: {more!r}")
+    for name, data in {"short": b"\x1f", "bz": b"BZh9\n", "letters": b"BZhello: 1\n"}.items():
+        (folder / name).write_bytes(data)
+        expect("compressed" not in stored(folder, "merge", name, "amd64=Packages")[2], f"{name} is no compressed list")
+    expect(stored(folder, "merge", "Sources", "amd64=Packages")[2] == "", "a list that is not compressed is named")
 
 
 # ---- words that no line can have
@@ -427,7 +609,8 @@ TESTS = [
 ]
 TESTS += [
     refuses_before_the_store_is_opened, refuses_after_the_store_was_opened, helps_with_each_subcommand,
-    says_what_takes_seconds_at_a_terminal,
+    says_where_the_store_comes, says_what_takes_seconds_at_a_terminal,
+    names_refused_words_at_a_terminal, names_compressed_lists,
 ]
 TESTS += [takes_words_as_they_are]
 TESTS += [reads_files_of_any_name, writes_nothing_for_queries, begins_an_office_for_a_query, names_the_fault_of_a_store]

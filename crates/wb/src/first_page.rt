@@ -1,14 +1,12 @@
 //! What the first page of a file says of the database in it, before that is opened.
 
+use crate::starting::{Front, Pages, front_of};
 use memchr::memmem;
 use std::fs;
-use std::io::Read;
+use std::io::{ErrorKind, Read};
 
 /// How many bytes are read: those of the first page of an office.
 const PAGE_SIZE: usize = 4_096;
-
-/// The first bytes of a database, by the format of SQLite's files.
-const MAGIC: &[u8] = b"SQLite format 3\0";
 
 /// Where the header of a database says how many bytes at the end of each page are left to others.
 const RESERVED_AT: usize = 20;
@@ -25,27 +23,37 @@ const RECORDS: &[u8] = b"TABLE source_record(";
 /// What the first page of a file says of the database in it.
 #[derive(Clone, Copy)]
 pub(crate) struct FirstPage {
-    /// The pages of the database have no room for checksums.
-    pub(crate) lacks_sums: bool,
+    /// What the file begins with.
+    pub(crate) front: Front,
+    /// Whether the pages of the database have room for checksums; those of a file that holds none will have it.
+    pub(crate) pages: Pages,
     /// It has the records of an office of format 1, and none of format 2. That is only said, so a page that tells it wrongly, as
     /// one of which the list of tables stands elsewhere, changes nothing.
     pub(crate) is_of_first_format: bool,
 }
 
 impl FirstPage {
-    /// The page of no database.
-    const NONE: FirstPage = FirstPage {
-        lacks_sums: false,
-        is_of_first_format: false,
-    };
+    /// The page of a file that begins so, and not as a database does.
+    fn of_none(front: Front) -> FirstPage {
+        FirstPage {
+            front,
+            pages: Pages::Summed,
+            is_of_first_format: false,
+        }
+    }
 
     /// What this page says.
     fn of(page: &[u8]) -> FirstPage {
-        if !page.starts_with(MAGIC) {
-            return FirstPage::NONE;
+        let front = front_of(page);
+        if front != Front::Database {
+            return FirstPage::of_none(front);
         }
         FirstPage {
-            lacks_sums: page.get(RESERVED_AT).is_some_and(|size| *size != SUM_SIZE),
+            front,
+            pages: match page.get(RESERVED_AT) {
+                Some(size) if *size != SUM_SIZE => Pages::Unsummed,
+                _ => Pages::Summed,
+            },
             is_of_first_format: memmem::find(page, FIRST_RECORDS).is_some()
                 && memmem::find(page, RECORDS).is_none(),
         }
@@ -54,27 +62,25 @@ impl FirstPage {
     /// What the first page of this file says. It is to be read before the file is opened as a database, since the end of a later
     /// read would let go of the locks on it. What is no regular file is not read: a pipe would be waited for.
     pub(crate) fn read(rt: &HostRuntime, file: &str) -> FirstPage {
-        if !is_regular(rt, file) {
-            return FirstPage::NONE;
-        }
-        let mut page = [0u8; PAGE_SIZE];
-        let Ok(mut data) = fs::File::open(rt, file) else {
-            return FirstPage::NONE;
-        };
-        match data.read(&mut page) {
-            Ok(size) => match page.get(..size) {
-                Some(page) => FirstPage::of(page),
-                None => FirstPage::NONE,
-            },
-            Err(_) => FirstPage::NONE,
+        match fs::metadata(rt, file) {
+            Ok(found) if found.is_file() => read_regular(rt, file),
+            Err(error) if error.kind() == ErrorKind::NotFound => FirstPage::of_none(Front::Nothing),
+            _ => FirstPage::of_none(Front::Unclear),
         }
     }
 }
 
-/// Whether the file is there and is no folder, pipe or device.
-fn is_regular(rt: &HostRuntime, name: &str) -> bool {
-    match fs::metadata(rt, name) {
-        Ok(found) => found.is_file(),
-        Err(_) => false,
+/// What the first page of this regular file says.
+fn read_regular(rt: &HostRuntime, file: &str) -> FirstPage {
+    let mut page = [0u8; PAGE_SIZE];
+    let Ok(mut data) = fs::File::open(rt, file) else {
+        return FirstPage::of_none(Front::Unclear);
+    };
+    match data.read(&mut page) {
+        Ok(size) => match page.get(..size) {
+            Some(page) => FirstPage::of(page),
+            None => FirstPage::of_none(Front::Unclear),
+        },
+        Err(_) => FirstPage::of_none(Front::Unclear),
     }
 }

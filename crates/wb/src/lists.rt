@@ -1,5 +1,6 @@
 //! The lists and reports that stand in files, or come from pipes.
 
+use crate::compression::compressor_of;
 use crate::progress::{is_watched, size_of_long};
 use crate::say;
 use std::alloc::{AllocError, Global};
@@ -74,7 +75,7 @@ impl<'a, F: Files + Eprint> Lists for FileLists<'a, F> {
 
     // A report is read past its buffer, in which there is nothing: that the read failed is reported by whoever asked for it.
     fn read(list: &mut BufReader<FileList<'a, F>>, room: &mut [u8]) -> io::Result<usize> {
-        list.get_mut().file.read(room)
+        list.get_mut().read_on(room)
     }
 
     fn report(&mut self, message: Message<'_>) {
@@ -97,6 +98,21 @@ pub(crate) struct FileList<'a, F: Files> {
 }
 
 impl<'a, F: Files + Eprint> FileList<'a, F> {
+    /// Reads on, and says of the first bytes if they are those of a compressed file: what follows is no text then.
+    fn read_on(&mut self, room: &mut [u8]) -> io::Result<usize> {
+        let count = self.file.read(room)?;
+        if self.read == 0 {
+            if let Some(program) = room.get(..count).and_then(|bytes| compressor_of(bytes)) {
+                let _ = eprintln!(self.rt;
+                    "wb: {} is compressed by {program}, and has to be unpacked first",
+                    self.name.as_str()
+                );
+            }
+        }
+        self.count(count as u64);
+        Ok(count)
+    }
+
     /// Counts bytes that were read, and says how far the list is read, if it is time.
     fn count(&mut self, bytes: u64) {
         self.read = self.read.saturating_add(bytes);
@@ -129,11 +145,8 @@ impl<'a, F: Files> Drop for FileList<'a, F> {
 
 impl<'a, F: Files + Eprint> Read for FileList<'a, F> {
     fn read(&mut self, room: &mut [u8]) -> io::Result<usize> {
-        match self.file.read(room) {
-            Ok(count) => {
-                self.count(count as u64);
-                Ok(count)
-            }
+        match self.read_on(room) {
+            Ok(count) => Ok(count),
             Err(error) => {
                 say(
                     self.rt,

@@ -2,16 +2,25 @@
 #![tactic(auto)]
 
 mod asked;
+mod compression;
 mod connection;
+mod explained;
 mod files;
 mod first_page;
+mod help;
 mod journal;
+mod leftovers;
 mod lists;
+mod lock;
 mod memory;
+mod names;
 mod progress;
+mod reasons;
 mod serve;
+mod starting;
 mod store;
 
+use explained::Explained;
 use journal::FileJournal;
 use lists::FileLists;
 use sqlite::Alter;
@@ -27,7 +36,7 @@ use wb_daemon::{Cause, Message, run_lines, run_words, status};
 use wb_journal::Journaled;
 use wb_office::Office;
 use wb_streams::{WatchedReader, WatchedWriter};
-use wb_words::{HELP, Start, start_of};
+use wb_words::{Start, start_of};
 
 /// The program and the kit that it is proved with, for `wb --version`.
 const VERSION: &str = "wb 0.1.0, proved with rattle-kit-13f logic dac8208d650f15bf";
@@ -62,10 +71,15 @@ fn start(rt: &HostRuntime, arguments: &[String]) -> u8 {
     let Some(words) = texts_of(rt.alloc(), arguments) else {
         return answer_no_command(rt);
     };
-    if let ["--version"] = words.as_slice() {
+    start_with(rt, &words)
+}
+
+/// Does what these words ask for.
+fn start_with(rt: &HostRuntime, words: &[&str]) -> u8 {
+    if let ["--version"] = words {
         return said(rt.println(VERSION), status::ACCEPTED);
     }
-    match start_of(rt.alloc(), &words) {
+    match start_of(rt.alloc(), words) {
         Ok(Start::Run { store, journal }) => open_for(rt, store, Work::Run { journal }),
         Ok(
             Start::Serve {
@@ -86,9 +100,10 @@ fn start(rt: &HostRuntime, arguments: &[String]) -> u8 {
         },
         Ok(Start::Ask { store, words }) => open_for(rt, store, Work::Ask { words }),
         Ok(Start::CarryOut { store, words }) => open_for(rt, store, Work::CarryOut { words }),
-        Ok(Start::Help) => said(rt.print(HELP), status::ACCEPTED),
+        Ok(Start::Help) => said(help::print_help(rt, words), status::ACCEPTED),
         Err(error) => {
             let _ = rt.eprintln(error);
+            help::report_late_store(rt, words);
             answer_no_command(rt)
         }
     }
@@ -182,14 +197,22 @@ fn run<O: MergeFrom>(rt: &HostRuntime, office: &mut O) -> u8 {
     let mut reader = WatchedReader::new(buffered);
     let mut writer = WatchedWriter::new(io::writer(rt));
     let mut lists = FileLists::new(rt);
-    run_lines(rt.alloc(), office, &mut reader, &mut writer, &mut lists)
+    let mut explained = Explained::new(rt, office);
+    run_lines(
+        rt.alloc(),
+        &mut explained,
+        &mut reader,
+        &mut writer,
+        &mut lists,
+    )
 }
 
 /// Answers a single command on standard output.
 pub(crate) fn answer<O: MergeFrom>(rt: &HostRuntime, office: &mut O, words: &[&str]) -> u8 {
     let mut writer = WatchedWriter::new(io::writer(rt));
     let mut lists = FileLists::new(rt);
-    run_words(rt.alloc(), office, words, &mut writer, &mut lists)
+    let mut explained = Explained::new(rt, office);
+    run_words(rt.alloc(), &mut explained, words, &mut writer, &mut lists)
 }
 
 /// The status after something was printed, or that of a failed write.

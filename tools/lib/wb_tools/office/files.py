@@ -80,14 +80,14 @@ def read_sums(folder: Path) -> dict[str, str]:
 
 
 def is_locked(handle: BinaryIO) -> bool:
-    """Whether another program has the lock, by either of the two kinds; if none has, it is taken, until the file is
-    closed."""
+    """Whether another program has the lock, by either of the two kinds, or has removed its file since it was opened; if
+    none has, it is taken, until the file is closed."""
     try:
         fcntl.flock(handle, fcntl.LOCK_EX | fcntl.LOCK_NB)
         fcntl.lockf(handle, fcntl.LOCK_EX | fcntl.LOCK_NB)
     except OSError:
         return True
-    return False
+    return os.fstat(handle.fileno()).st_nlink == 0
 
 
 def beside(file: Path, ending: str) -> Path:
