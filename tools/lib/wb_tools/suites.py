@@ -26,3 +26,9 @@ def port_of_suite(suite: str, folder: Path) -> int | None:
         return read_settings(settings_of_suite(suite, folder)).port
     except (Refusal, ValueError):
         return None
+
+
+def suites_in(folder: Path) -> list[str]:
+    """The suites whose offices have their settings in this folder."""
+    names = sorted(path.stem for path in folder.glob("*.conf") if path.name != "office.conf")
+    return [name for name in names if port_of_suite(name, folder)]

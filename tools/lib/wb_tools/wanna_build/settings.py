@@ -5,12 +5,14 @@ import contextlib
 import os
 import pwd
 import re
+import stat
 import time
 from dataclasses import dataclass, field
 from pathlib import Path
+from typing import IO
 
 from wb_tools.office.settings import unquoted
-from wb_tools.suites import port_of_suite
+from wb_tools.suites import port_of_suite, suites_in
 
 DONE, REFUSED, WRONG_WORDS, NOT_SENT = 0, 1, 2, 3
 FILE = Path("/etc/wb/wanna-build.conf")
@@ -41,6 +43,27 @@ def caller() -> str:
     return pwd.getpwuid(os.geteuid()).pw_name
 
 
+def open_private(path: Path, mode: str) -> IO[str]:
+    """Opens a file that nobody but its owner can open, in a folder that is made so if it is missing. What root makes in
+    the folder of somebody else is theirs. An OSError says what cannot be done."""
+    for folder in reversed([folder for folder in path.parents if not folder.exists()]):
+        folder.mkdir(mode=0o700, exist_ok=True)
+    file = open(
+        path, mode, encoding="utf-8", errors="replace", opener=lambda name, flags: os.open(name, flags, 0o600)
+    )
+    try:
+        found, folder_of = os.fstat(file.fileno()), path.parent.stat()
+        if stat.S_ISREG(found.st_mode) and found.st_uid == os.geteuid():
+            if found.st_mode & 0o077:
+                os.fchmod(file.fileno(), 0o600)
+            if found.st_uid == 0 != folder_of.st_uid:
+                os.fchown(file.fileno(), folder_of.st_uid, folder_of.st_gid)
+    except OSError:
+        file.close()
+        raise
+    return file
+
+
 @dataclass
 class Settings:
     """What the settings file says. Times are in seconds."""
@@ -58,6 +81,16 @@ class Settings:
     def port_of(self, suite: str) -> int | None:
         return self.suites.get(suite) or port_of_suite(suite, self.folder)
 
+    def suites_of(self, word: str) -> list[str]:
+        """The suites that the word of --dist names, with commas between them: `all` names each that has an office here,
+        and no word the only one that SUITES has; if it has several, none."""
+        if word == "all":
+            beside = (suite for suite in suites_in(self.folder) if suite not in self.suites)
+            ports = set(self.suites.values())
+            return [*self.suites, *(suite for suite in beside if self.port_of(suite) not in ports)]
+        named = dict.fromkeys(suite for suite in word.split(",") if suite)
+        return list(named) or (list(self.suites) if len(self.suites) == 1 else [])
+
     def arch_of(self, arch: str) -> str:
         """The office's name of an architecture that buildd names."""
         return self.all_arch if arch == "all" else arch or self.arch
@@ -65,7 +98,7 @@ class Settings:
     def note(self, text: str) -> None:
         """Appends to the log what no answer to buildd can say; a log that cannot be written stops nothing."""
         line = f"{time.strftime('%Y-%m-%dT%H:%M:%SZ', time.gmtime())} {text}\n"
-        with contextlib.suppress(OSError), open(self.log, "a", encoding="utf-8", errors="replace") as log:
+        with contextlib.suppress(OSError), open_private(self.log, "a") as log:
             log.write(line)
 
 

@@ -2,7 +2,7 @@
 the office.
 
 The file is replaced as a whole, and synced before and after, so a stop leaves the one before or the one after. A lock
-beside it lets one call at a time change it.
+beside it lets one call at a time change it. Nobody but their owner can open them.
 """
 from __future__ import annotations
 
@@ -17,7 +17,7 @@ from dataclasses import dataclass, field
 from pathlib import Path
 from typing import Any
 
-from wb_tools.wanna_build.settings import NOT_SENT, Fault
+from wb_tools.wanna_build.settings import NOT_SENT, Fault, open_private
 
 FORMAT = 1
 MOST_ENDED = 1000  # entries of holds that ended, which are kept against late reports
@@ -42,6 +42,9 @@ class Take:
 
     def is_of(self, version: str) -> bool:
         return version in (self.version, self.build)
+
+    def is_held_as(self, version: str) -> bool:
+        return self.is_of(version) and self.stage in (BUILDING, BUILT)
 
 
 @dataclass
@@ -97,6 +100,10 @@ class Kept:
             self.takes.remove(take)
 
 
+class Damaged(Fault):
+    """The file is not as this command wrote it."""
+
+
 class StateFile:
     """The file, and its lock."""
 
@@ -107,21 +114,32 @@ class StateFile:
     def read(self) -> Kept:
         """What the file has; nothing if there is none."""
         try:
-            text = self.path.read_text(encoding="utf-8")
+            text = self.path.read_bytes()
         except FileNotFoundError:
             self.kept = Kept()
             return self.kept
-        except (OSError, UnicodeDecodeError) as error:
-            raise Fault(f"{self.path} cannot be read: {error}", NOT_SENT) from None
+        except OSError as error:
+            raise Fault(f"{self.path} cannot be read: {error.strerror}", NOT_SENT) from None
         try:
             said: dict[str, Any] = json.loads(text)
             if said["format"] != FORMAT:
                 raise ValueError(f"its format is {said['format']}")
             self.kept = Kept([Take(**row) for row in said["takes"]], [Debt(**row) for row in said["owed"]])
         except (ValueError, KeyError, TypeError) as error:
-            raise Fault(
+            raise Damaged(
                 f"{self.path} is not as this command wrote it: {error}; look at it, and move it away", NOT_SENT
             ) from None
+        return self.kept
+
+    def look(self, is_builders: bool = False) -> Kept:
+        """The same for a call that can do without it: also nothing if it cannot be read, as that of somebody else. A
+        builder has to know that it is damaged, since it may owe something then."""
+        try:
+            return self.read()
+        except Fault as fault:
+            if is_builders and isinstance(fault, Damaged):
+                raise
+        self.kept = Kept()
         return self.kept
 
     def write(self) -> None:
@@ -130,7 +148,7 @@ class StateFile:
         rows = {name: [dataclasses.asdict(row) for row in getattr(self.kept, name)] for name in ("takes", "owed")}
         written = self.path.with_name(f".{self.path.name}.new")
         try:
-            with open(written, "w", encoding="utf-8") as file:
+            with open_private(written, "w") as file:
                 json.dump({"format": FORMAT, **rows}, file, indent=1)
                 file.write("\n")
                 file.flush()
@@ -149,7 +167,7 @@ class StateFile:
         """What the file has, which no other call changes meanwhile."""
         end = time.monotonic() + seconds
         try:
-            lock = open(self.path.with_name(f".{self.path.name}.lock"), "a", encoding="utf-8")  # noqa: SIM115
+            lock = open_private(self.path.with_name(f".{self.path.name}.lock"), "a")
         except OSError as error:
             raise Fault(f"no lock can be had beside {self.path}: {error.strerror}", NOT_SENT) from None
         with lock:
