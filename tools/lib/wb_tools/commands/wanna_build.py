@@ -3,21 +3,26 @@ environment, so the settings are in a file."""
 from __future__ import annotations
 
 import os
-import re
 import sys
 from collections.abc import Callable, Iterator, Sequence
-from pathlib import Path
+from functools import cache, cached_property
 from typing import Any
 
 from wb_tools import outlive_readers
+from wb_tools.lists import is_arch_name
 from wb_tools.wanna_build.answers import info, list_of, taken_as_yaml, taken_in_words, total
-from wb_tools.wanna_build.office import NoAnswer, Office, Record, Refusal, is_of
-from wb_tools.wanna_build.reports import Reports, take_of, tried
+from wb_tools.wanna_build.by_name import ByName, Order, cut, order_of
+from wb_tools.wanna_build.changes import arch_of, read_changes, suite_of
+from wb_tools.wanna_build.forced import read_words
+from wb_tools.wanna_build.listing import check_format, check_order, formatted, ordered
+from wb_tools.wanna_build.office import NoAnswer, Office, Record, Refusal, held_by, is_of
+from wb_tools.wanna_build.reports import Reports, reason_of, take_of, tried
 from wb_tools.wanna_build.settings import (
     DONE, FILE, NOT_SENT, REFUSED, WRONG_WORDS, Fault, Settings, caller, read_settings,
 )
+from wb_tools.wanna_build.simulation import Simulation
 from wb_tools.wanna_build.state import ATTEMPTED, BUILDING, BUILT, Debt, StateFile, Take
-from wb_tools.wanna_build.words import NAME, Call, read_words, states_of
+from wb_tools.wanna_build.words import BUILDER, Call, states_of
 
 HELP = f"""\
 usage: wanna-build [--settings FILE] [--arch=A] [--dist=S] [--user=B] WORDS
@@ -27,7 +32,7 @@ requests of an office that `wb serve` answers on this machine. A report that the
 and is sent again, in order, before the next command.
 
 what buildd, buildd-mail and buildd-uploader say:
-  --list=STATE [--min-age=N]       what is in a state, or in `all`; Needs-Build in the order of the queue
+  --list=STATE                     what is in a state, or in `all`; Needs-Build in the order of the queue
   [--api 1 | -v] SOURCE_VERSION    takes it, and answers as YAML or in words; also --take
   --built, --attempted, --uploaded, --give-back SOURCE_VERSION
   --dep-wait SOURCE_VERSION        with the relations on standard input
@@ -37,25 +42,42 @@ what buildd, buildd-mail and buildd-uploader say:
 
 what porters and the release team say besides:
   --binNMU=N -m TEXT SOURCE_VERSION     builds an installed version once more
-  --build-priority=N SOURCE_VERSION     builds it before, or after, those of other build priorities
+  --build-priority=N SOURCE_VERSION     builds it before, or after, those of other build priorities; also
+                                        --permbuildpri, --perm-build-priority, --permanent-build-priority
   --give-back, --dep-wait, --failed, --no-build, with -m TEXT in place of standard input; --override if another builder
                                         holds it
+  --forget-user BUILDER                 gives back all that a builder holds, one that is gone, and shows it; with --arch
+                                        of one architecture
+  --simulate                            shows what a word would change, and sends nothing
+  --list=STATE --order=LETTERS          in the order of p, priority, s, section, n, name, b, builder, or c, what was
+                                        built before; of several letters the first decides
+  --list=STATE --format=TEXT            a line of this text for each, and no total: %p is the source package, %v its
+                                        version, %V that of its binaries, %a the architecture, %d the suite, %S the
+                                        state, %u the builder, %c the section, %B the number of a rebuild, %E what it
+                                        waits for, or its place in the queue, %D why it cannot be installed, %F the
+                                        reason of another state, %X what a list has in brackets, %n a new line, %% a
+                                        per cent sign; %{{TEXT}}B is the text if %B is not empty, %{{!TEXT}}B if it is
   --may-upload FILE.changes             status 0 if what it names is held as built; for a hook of dupload; - is
                                         standard input
-  --owed                                what is kept, and owed to the offices
+  --owed                                sends what is owed to the offices, and shows what is left, and what is held
+  --forget TAKE                         drops what is owed under a take number, or of SOURCE_VERSION
 
 SOURCE_VERSION is hello_1.0-1 as a list shows it, or with the version of the binaries, hello_1.0-1+b1. --user is the
-builder's name in the office, that of the caller if it is not given. --database=ARCH/NAME stands for --arch. --min-age
-is read and plays no part: the office has no clock. --forced, with --user and --arch, is for a forced command of ssh:
-the other words are taken from SSH_ORIGINAL_COMMAND.
+builder's name in the office, that of the caller if it is not given. --database=ARCH/NAME stands for --arch. --dist may
+name several suites, as in sid,experimental, or `all` of them: each is asked in turn. A take, and what came of a build,
+is of one. --min-age, --max-age and --category are refused, but for 0: the office has no clock, and no categories.
+
+--forced, with --user and --arch, is for a forced command of ssh: the words are those of SSH_ORIGINAL_COMMAND, and what
+stands beside --forced is all that they may say of it; --arch and --dist may be lists. --forced=builder lets through
+what buildd, buildd-mail, buildd-uploader and the hook say, and no word of porters.
 
 settings, lines of KEY=VALUE with a value with a blank in quotes, in {FILE} or FILE:
   SUITES   the port of 127.0.0.1 on which the office of each suite serves, as "sid=8080 experimental=8081" (required)
   ARCH     the architecture, if --arch is not given
   ALL      the office's architecture for builds of `all`, which buildd names `all`    indep
-  STATE    the file of what is held and owed; the caller writes it and its folder     ~/wanna-build.state
+  STATE    the file of what is held and owed, of its caller alone; its folder is made ~/wanna-build.state
   LOG      the file of reports that were owed, or refused later                       ~/wanna-build.log
-  TRY      seconds that a report is tried before it is kept for the next command      300
+  TRY      seconds that a report, or --info, is tried before it is kept, or fails     300
   ANSWER   seconds that an answer may take                                            40
   RETAKE   yes or no: whether a list of Needs-Build begins with what its builder
            is building already, as after buildd was killed                            yes
@@ -63,7 +85,9 @@ settings, lines of KEY=VALUE with a value with a blank in quotes, in {FILE} or F
 examples:
   wanna-build --arch=amd64 --dist=sid --user=b1 --api 1 --list=needs-build
   wanna-build -A amd64 -d sid --list=build-attempted
+  wanna-build -A amd64 -d all --list=failed --format='%p_%v (%d): %F'
   wanna-build -A amd64 -d sid --binNMU=1 -m 'Rebuild against libfoo2' hello_1.0-1
+  wanna-build -A amd64 -d sid --simulate --give-back hello_1.0-1
   echo 'libfoo-dev (>= 2)' | wanna-build -A amd64 -d sid --dep-wait hello_1.0-1
 
 exit statuses: 0 done; 1 the office refused it, or has not such a suite; 2 the words or the settings are wrong; 3 the
@@ -71,13 +95,9 @@ office does not answer, or a file cannot be written: a report of a builder is ke
 not done, or it is not known. Standard error says which.
 """
 TAKE_FOR = 30  # seconds at most that a take is tried: buildd hears no signal meanwhile
-MOST_TEXT = 1000  # bytes of a note
-# The command of what is said by name, and the state that shows that it was heard.
-BY_NAME = {
-    "give-back": "Needs-Build", "dep-wait": "Dep-Wait", "fail": "Failed", "not-for-us": "Not-For-Us",
-    "rebuild": "Needs-Build",
-}
-REPORTS = ("built", "attempted", "uploaded", "give-back", "dep-wait")
+REPORTS = ("built", "attempted", "uploaded")  # what a builder alone says
+ON_HOLDS = ("give-back", "dep-wait")  # what a builder says of what it holds, and a porter by name
+OF_ONE_SUITE = ("take", *REPORTS)
 
 
 def tell(text: str) -> None:
@@ -106,19 +126,16 @@ def text_of(call: Call) -> str:
     return "\n".join(lines).strip()
 
 
-def cut(text: str) -> str:
-    """As much of a text as an office takes for a note."""
-    return text.encode(errors="replace")[:MOST_TEXT].decode(errors="ignore")
-
-
 class WannaBuild:
-    """One call."""
+    """A call to the office of one suite."""
 
-    def __init__(self, call: Call, settings: Settings) -> None:
-        self.call, self.settings = call, settings
+    def __init__(
+        self, call: Call, settings: Settings, suite: str, text: Callable[[], str], mark: str = ""
+    ) -> None:
+        """`mark` stands after the names of packages of which something is said on standard error."""
+        self.call, self.settings, self.suite, self.text, self.mark = call, settings, suite, text, mark
         self.builder = call.said.get("user") or caller()
         self.arch = settings.arch_of(call.arch)
-        self.suite = call.said.get("dist") or (next(iter(settings.suites)) if len(settings.suites) == 1 else "")
         self.state = StateFile(settings.state)
         self.reports = Reports(settings, self.state)
 
@@ -128,31 +145,49 @@ class WannaBuild:
 
     def carry_out(self) -> int:
         action = self.call.action
-        if action == "owed":
-            return self.show_owed()
-        if action == "may-upload":
-            return self.may_upload()
-        if not self.suite:
-            raise Fault("--dist is missing, and the settings have several suites", WRONG_WORDS)
-        if self.settings.port_of(self.suite) is None:
-            if action == "list":  # buildd passes over a suite of which it reads this
-                print(f"Database for {self.suite} doesn't exist")
-                return REFUSED
-            raise Fault(f"the settings have no suite {self.suite}", WRONG_WORDS)
+        if action == "list" and self.settings.port_of(self.suite) is None:
+            print(f"Database for {self.suite} doesn't exist")  # buildd passes over a suite of which it reads this
+            return REFUSED
+        if action == "forget-user":
+            return self.forget_users()
         if not self.arch:
             raise Fault("--arch is missing, and the settings have none", WRONG_WORDS)
+        if not is_arch_name(self.arch):
+            raise Fault(f"{self.arch!r} is no architecture", WRONG_WORDS)
+        if action in OF_ONE_SUITE and not BUILDER.fullmatch(self.builder):
+            raise Fault(f"{self.builder!r} is no name of a builder", WRONG_WORDS)
         if action == "list":
             return self.show_list()
         if action == "info":
             return self.show_info()
-        return self.take() if action == "take" else self.say()
+        if self.call.simulates:
+            return self.each(self.simulate)
+        if action == "take":
+            return self.take()
+        self.text()  # no lock is held while it is read
+        return self.each(self.say)
+
+    def each(self, step: Callable[[str, str], str]) -> int:
+        """Takes a step for each package. It answers why it was refused, if it was."""
+        status = DONE
+        for source, version in self.call.packages():
+            try:
+                why, end = step(source, version), REFUSED
+            except NoAnswer as fault:
+                why, end = str(fault), NOT_SENT
+            if why:
+                tell(f"{source}_{version}{self.mark}: {why}")
+                status = max(status, end)
+        return status
 
     def locked(self) -> Any:
         return self.state.locked(self.settings.try_for + 2 * self.settings.answer)
 
-    def settle(self) -> None:
+    def settle(self, is_builders: bool = False) -> None:
         """Sends what is owed to this suite; NoAnswer if it cannot be sent."""
-        self.state.read()
+        if self.call.simulates:
+            return
+        self.state.look(is_builders)
         if self.reports.owed(self.suite):
             with self.locked():
                 self.reports.send_owed(self.suite)
@@ -160,14 +195,18 @@ class WannaBuild:
     # -- what is asked
 
     def show_list(self) -> int:
-        self.settle()
-        count = 0
-        wanted = states_of(self.call.value)
+        wanted, count = states_of(self.call.value), 0
+        order, form = (self.call.said.get(name, "") for name in ("order", "format"))
+        check_order(order)
+        check_format(form)
+        self.settle("user" in self.call.said and wanted == ["Needs-Build"])
         for state in wanted:
             records = self.waiting() if state == "Needs-Build" else told(self.office.in_state(self.arch, state))
+            lines = formatted(form, records, self.suite, order) if form else list_of(ordered(records, order), state)
+            print("".join(f"{line}\n" for line in lines), end="")
             count += len(records)
-            print("".join(f"{line}\n" for line in list_of(records, state)), end="")
-        print(total(count, wanted[0] if len(wanted) == 1 else "all"))
+        if not form:
+            print(total(count, wanted[0] if len(wanted) == 1 else "all"))
         return DONE
 
     def waiting(self) -> list[Record]:
@@ -187,17 +226,23 @@ class WannaBuild:
         return [record for record in mine if record["arch"] == self.arch and record["state"] == "Building"] + found
 
     def show_info(self) -> int:
-        self.settle()
+        """Shows records. An office that is stopped is waited for: buildd-mail would send an answer to a log back."""
         if not self.call.words:
-            raise Fault("--info wants a package, as in hello", WRONG_WORDS)
-        for word in self.call.words:
-            source = word.rpartition("/")[2].partition("_")[0]
-            record = self.office.item(self.arch, source)
-            if isinstance(record, Refusal) and record.name == "UnknownSource":
-                print(f"{source}({self.suite}): not registered")
-            else:
-                print("\n".join(info(told(record), self.suite)))
+            raise Fault(f"{self.call.word} wants a package, as in hello", WRONG_WORDS)
+
+        def once() -> list[str]:
+            self.settle()
+            return [line for word in self.call.words for line in self.info_of(word)]
+
+        print("\n".join(tried(self.settings.try_for, once)))
         return DONE
+
+    def info_of(self, word: str) -> list[str]:
+        source = word.rpartition("/")[2].partition("_")[0]
+        record = self.office.item(self.arch, source)
+        if isinstance(record, Refusal) and record.name == "UnknownSource":
+            return [f"{source}({self.suite}): not registered"]
+        return list(info(told(record), self.suite))
 
     # -- a take
 
@@ -220,21 +265,19 @@ class WannaBuild:
             self.reports.send_owed(self.suite)
             self.state.write()
             asked = {"arch": self.arch, "builder": self.builder, "source": source, "version": version}
-            found: list[Record] = []
             tries = 0
 
-            def once() -> str:
+            def once() -> Record:
                 nonlocal tries
                 tries += 1
                 said = self.office.ask("POST", "/v1/take", asked)
-                found.append(self.taken_before(said, source, version, tries > 1) if isinstance(said, Refusal) else said)
-                return ""
+                return self.taken_before(said, source, version, tries > 1) if isinstance(said, Refusal) else said
 
-            tried(min(self.settings.try_for, TAKE_FOR), once)
-            debt = Debt(self.suite, self.arch, self.builder, source, version, "built", found[0]["take"])
-            self.state.kept.put(take_of(debt, found[0], BUILDING))
+            assignment = tried(min(self.settings.try_for, TAKE_FOR), once)
+            debt = Debt(self.suite, self.arch, self.builder, source, version, "built", assignment["take"])
+            self.state.kept.put(take_of(debt, assignment, BUILDING))
             self.state.write()
-            return found[0]
+            return assignment
 
     def taken_before(self, refusal: Refusal, source: str, version: str, again: bool) -> Record:
         """What this builder holds already: it was killed while it built it, or the answer to its take was lost."""
@@ -248,45 +291,39 @@ class WannaBuild:
             and (again or self.settings.retake)
         ):
             return record
-        raise Fault(f"it is {record['state']}" + (f", held by {record['holder']}" if record["holder"] else ""))
+        raise Fault(f"it is {record['state']}{held_by(record)}")
 
     # -- what is said
 
-    def say(self) -> int:
-        text, status = text_of(self.call), DONE
-        for source, version in self.call.packages():
-            try:
-                with self.locked():
-                    why = self.say_one(source, version, text)
-                if why:
-                    tell(f"{source}_{version}: {why}")
-                    status = max(status, REFUSED)
-            except NoAnswer as fault:
-                tell(f"{source}_{version}: {fault}")
-                status = NOT_SENT
-        return status
+    def say(self, source: str, version: str) -> str:
+        """Why it was refused, if it was. Only the reports of a builder need the file and its lock."""
+        if self.is_report(source, version):
+            with self.locked():
+                debt = self.debt_of(source, version)
+                if debt:
+                    return self.reports.report(debt, self.settings.try_for)
+        tried(self.settings.try_for, self.settle)
+        return self.by_name.say(self.order, source, version)
 
-    def say_one(self, source: str, version: str, text: str) -> str:
-        """Why it was refused, if it was."""
-        if self.call.action in REPORTS:
-            debt = self.debt_of(source, version, text)
-            if debt:
-                return self.reports.report(debt, self.settings.try_for)
-        self.reports.send_owed(self.suite)
-        return self.say_by_name(source, version, text)
+    def is_report(self, source: str, version: str) -> bool:
+        """Whether it is a report on what the builder holds, or may hold; give-back and dep-wait are else said by
+        name."""
+        if self.call.action in ON_HOLDS:
+            take = self.state.look().find(self.suite, self.arch, self.builder, source)
+            return bool(take and take.is_held_as(version)) or bool(self.held(source, version))
+        return self.call.action in REPORTS
 
-    def debt_of(self, source: str, version: str, text: str) -> Debt | None:
-        """The report that the words are, under the take number of what the builder holds; none if they are a porter's,
-        by name."""
+    def debt_of(self, source: str, version: str) -> Debt | None:
+        """The report that the words are, under the take number of what the builder holds; none if they are said by
+        name."""
         word = self.call.action
         take = self.state.kept.find(self.suite, self.arch, self.builder, source)
         take = take if take and take.is_of(version) else None
-        by_name = word in ("give-back", "dep-wait")
-        if by_name and (take is None or take.stage not in (BUILDING, BUILT)):
-            if not self.adopt(source, version):
+        if word in ON_HOLDS and not (take and take.is_held_as(version)):
+            take = self.adopted(source, version)
+            if take is None:
                 return None
-            take = self.state.kept.find(self.suite, self.arch, self.builder, source)
-        text = text or (f"the build failed on {self.builder}" if word == "attempted" else "")
+        text = cut(self.text() or reason_of(self.builder)) if word == "attempted" else self.text()
         debt = Debt(self.suite, self.arch, self.builder, source, version, word, take and take.take, text)
         if take and take.stage == ATTEMPTED:
             # buildd was told by mail to build it once more, and does not take it
@@ -295,140 +332,182 @@ class WannaBuild:
         debt.anew = debt.anew or word == "dep-wait"
         return debt
 
-    def adopt(self, source: str, version: str) -> bool:
-        """Whether the builder holds a package of whose take number nothing is kept; it is kept then."""
-        found: list[Record] = []
+    def held(self, source: str, version: str) -> list[Record]:
+        """What the office shows as held by the builder of a package; a porter is no builder of the office."""
 
-        def once() -> str:
+        def once() -> list[Record]:
             records = self.office.mine(self.builder)
-            if not isinstance(records, Refusal):  # a porter is no builder of the office
-                held = (
-                    record
-                    for record in records
-                    if (record["arch"], record["source"]) == (self.arch, source) and is_of(record, version)
-                )
-                found.extend(held)
-            return ""
-
-        tried(self.settings.try_for, once)
-        for record in found:
-            stage = BUILDING if record["state"] == "Building" else BUILT
-            self.state.kept.put(
-                Take(
-                    self.suite, self.arch, self.builder, source, record["version"], record["build"], record["take"],
-                    stage,
-                )
-            )
-        return bool(found)
-
-    # -- what porters say by name, and what buildd-mail says of what is not held
-
-    def say_by_name(self, source: str, version: str, text: str) -> str:
-        """Says it of the version that the record has, and not while another builder holds it. If an answer was lost,
-        the record shows whether it was heard."""
-        command = {"failed": "fail"}.get(self.call.action, self.call.action)
-        body = self.body_of(command, text)
-        sent = False
-
-        def once() -> str:
-            nonlocal sent
-            record = self.office.item(self.arch, source)
-            if isinstance(record, Refusal):
-                return str(record)
-            if not is_of(record, version):
-                return f"the office has version {record['version']}"
-            if sent and self.is_heard(command, record, body):
-                return ""
-            if (
-                command != "build-priority"
-                and record["holder"] not in (None, self.builder)
-                and "override" not in self.call.flags
-            ):
-                return f"it is {record['state']}, held by {record['holder']}; --override ends the hold"
-            sent = True
-            refusal = self.office.post(command, arch=self.arch, source=source, version=record["version"], **body)
-            return str(refusal) if refusal else ""
+            return [
+                record
+                for record in ([] if isinstance(records, Refusal) else records)
+                if (record["arch"], record["source"]) == (self.arch, source) and is_of(record, version)
+            ]
 
         return tried(self.settings.try_for, once)
 
-    def body_of(self, command: str, text: str) -> dict[str, Any]:
-        if command == "dep-wait":
-            return {"relations": text}
-        if command in ("fail", "not-for-us"):
-            return {"note": cut(text)}
-        if command in ("rebuild", "build-priority"):
-            if not re.fullmatch("-?[0-9]{1,9}", self.call.value):
-                raise Fault(f"{self.call.value!r} is no number", WRONG_WORDS)
-            number = int(self.call.value)
-            return {"number": max(0, number), "message": cut(text)} if command == "rebuild" else {"value": number}
-        return {}
+    def adopted(self, source: str, version: str) -> Take | None:
+        """What the builder holds of a package of whose take number nothing is kept; it is kept then."""
+        for record in self.held(source, version):
+            stage = BUILDING if record["state"] == "Building" else BUILT
+            take = Take(
+                self.suite, self.arch, self.builder, source, record["version"], record["build"], record["take"], stage
+            )
+            self.state.kept.put(take)
+            return take
+        return None
 
-    @staticmethod
-    def is_heard(command: str, record: Record, body: dict[str, Any]) -> bool:
-        if command == "build-priority":
-            return bool(record["build_priority"] == body["value"])
-        return record["state"] == BY_NAME[command] and record["number"] == body.get("number", record["number"])
+    @cached_property
+    def order(self) -> Order:
+        return order_of(self.call, self.text())
 
-    # -- what is kept
+    @property
+    def by_name(self) -> ByName:
+        overrides, is_builders = "override" in self.call.flags, self.call.is_builders
+        return ByName(self.office, self.arch, self.builder, self.settings.try_for, overrides, is_builders)
 
-    def show_owed(self) -> int:
-        """Sends what is owed, and shows what is left, and what is held."""
-        faults = []
-        with self.locked() as kept:
+    # -- what would change, and a builder that is gone
+
+    def simulate(self, source: str, version: str) -> str:
+        """Shows what a word would change, and sends nothing. Why it would be refused, if it would be."""
+        builder = Simulation(self.office, self.arch, self.builder)
+        take = self.state.look().find(self.suite, self.arch, self.builder, source)
+        take = take if take and take.is_of(version) else None
+        try:
+            if self.call.action == "take":
+                change = builder.taken(source, version, self.settings.retake)
+            elif builder.is_report(self.call.action, source, take):
+                change = builder.reported(self.call.action, source, version, take)
+            else:
+                change = self.by_name.simulated(self.order, source, version)
+        except Fault as fault:
+            if fault.status != REFUSED:
+                raise
+            return str(fault)
+        self.show_change(source, version, self.arch, change)
+        return ""
+
+    def show_change(self, source: str, version: str, arch: str, change: str) -> None:
+        print(f"{source}_{version} ({self.suite}, {arch}): {change}")
+
+    def forget_users(self) -> int:
+        """Gives back all that builders hold, of --arch alone if it is given, and shows it."""
+        if not self.call.words:
+            raise Fault(f"{self.call.word} wants a builder, as in b1", WRONG_WORDS)
+        return max([self.forget_user(builder) for builder in self.call.words])
+
+    def forget_user(self, builder: str) -> int:
+        records = tried(self.settings.try_for, lambda: self.office.mine(builder))
+        if isinstance(records, Refusal):
+            tell(f"{builder}{self.mark}: {records}")
+            return REFUSED
+        status = DONE
+        for record in (record for record in records if not self.call.arch or record["arch"] == self.arch):
+            name, arch = (record["source"], record["version"]), record["arch"]
+            why = "" if self.call.simulates else self.by_name.release(record)
+            if why:
+                tell(f"{name[0]}_{name[1]}{self.mark}: {why}")
+                status = REFUSED
+            else:
+                self.show_change(*name, arch, f"{record['state']}{held_by(record)} -> Needs-Build")
+        return status
+
+
+# ---- what is kept, and what may be uploaded
+
+
+def show_owed(call: Call, settings: Settings, reports: Reports) -> int:
+    """Sends what is owed, and shows what is left, and what is held."""
+    faults = []
+    if reports.state.read().owed and not call.simulates:
+        with reports.state.locked(settings.try_for + 2 * settings.answer) as kept:
             for suite in sorted({debt.suite for debt in kept.owed}):
                 try:
-                    self.reports.send_owed(suite)
+                    reports.send_owed(suite)
                 except NoAnswer as why:
                     faults.append(str(why))
-            for debt in kept.owed:
-                print(f"owed: {debt}")
-            for take in kept.takes:
-                print(
-                    f"{take.stage}: {take.source}_{take.build} ({take.suite}, {take.arch}, {take.builder}, take "
-                    f"{take.take})"
-                )
-        for fault in faults:
-            tell(fault)
-        return NOT_SENT if faults else DONE
-
-    def may_upload(self) -> int:
-        """Whether the office shows what a .changes file names as built under the take number under which it was
-        reported."""
-        if len(self.call.words) != 1:
-            raise Fault("--may-upload wants one .changes file", WRONG_WORDS)
-        source, version, arch, suite = read_changes(Path(self.call.words[0]))
-        self.arch, self.suite = self.settings.arch_of(self.call.arch or arch), self.call.said.get("dist") or suite
-        with self.locked() as kept:
-            self.reports.send_owed(self.suite)
-            take = kept.find(self.suite, self.arch, self.builder, source)
-        for record in told(self.office.mine(self.builder)):
-            if (
-                (record["arch"], record["source"]) == (self.arch, source)
-                and is_of(record, version)
-                and record["state"] in ("Built", "Uploaded")
-            ):
-                if take is None or take.take == record["take"]:
-                    return DONE
-        raise Fault(f"{source}_{version} ({self.suite}, {self.arch}) is not held as built by {self.builder}")
+    for debt in reports.kept.owed:
+        print(f"owed: {debt}")
+    for take in reports.kept.takes:
+        print(f"{take.stage}: {take.source}_{take.build} ({take.suite}, {take.arch}, {take.builder}, take {take.take})")
+    for fault in faults:
+        tell(fault)
+    return NOT_SENT if faults else DONE
 
 
-def read_changes(path: Path) -> tuple[str, str, str, str]:
-    """The source package, the version, the architecture and the suite of a .changes file, or of standard input for
-    `-`."""
+def forget(call: Call, settings: Settings, reports: Reports) -> int:
+    """Drops what is owed under a take number, or of a package, and shows it."""
+    if len(call.words) != 1:
+        raise Fault(f"{call.word} wants one take number, as --owed shows it, or one package", WRONG_WORDS)
+    suites = settings.suites_of(call.said["dist"]) if call.said.get("dist") else []
+    arch = settings.arch_of(call.arch) if call.arch else ""
+    with reports.state.locked(settings.try_for + 2 * settings.answer):
+        found = reports.owed_as(call.words[0], suites, arch, call.said.get("user", ""))
+        if not call.simulates:
+            reports.forget(found)
+    for debt in found:
+        print(f"forgotten: {debt}")
+    return DONE
+
+
+def may_upload(call: Call, settings: Settings, reports: Reports) -> int:
+    """Whether the office shows what a .changes file names as built under the take number under which it was
+    reported."""
+    if len(call.words) != 1:
+        raise Fault(f"{call.word} wants one .changes file", WRONG_WORDS)
+    changes, builder = read_changes(call.words[0]), call.said.get("user") or caller()
+    suite, arch = suite_of(call, settings, changes), arch_of(call, settings, changes)
+    reports.state.read()
+    if reports.owed(suite):
+        with reports.state.locked(settings.try_for + 2 * settings.answer):
+            reports.send_owed(suite)
+    take = reports.kept.find(suite, arch, builder, changes.source)
+    for record in told(reports.office(suite).mine(builder)):
+        if (
+            (record["arch"], record["source"]) == (arch, changes.source)
+            and is_of(record, changes.version)
+            and record["state"] in ("Built", "Uploaded")
+        ):
+            if take is None or take.take == record["take"]:
+                return DONE
+    raise Fault(f"{changes.source}_{changes.version} ({suite}, {arch}) is not held as built by {builder}")
+
+
+# ---- a call
+
+
+def carried_out(call: Call, settings: Settings) -> int:
+    """What a call ends with: of one to several suites the greatest status."""
+    of_no_suite = {"owed": show_owed, "forget": forget, "may-upload": may_upload}
+    if call.action in of_no_suite:
+        return of_no_suite[call.action](call, settings, Reports(settings, StateFile(settings.state)))
+    suites = settings.suites_of(call.said.get("dist", ""))
+    if not suites:
+        raise Fault("--dist is missing, and the settings have several suites", WRONG_WORDS)
+    if len(suites) > 1 and call.action in OF_ONE_SUITE:
+        raise Fault(f"{call.word} is of one suite, and --dist names {', '.join(suites)}", WRONG_WORDS)
+    unknown = [suite for suite in suites if settings.port_of(suite) is None]
+    if unknown and call.action != "list":
+        raise Fault(f"the settings have no suite {unknown[0]}", WRONG_WORDS)
+    text = cache(lambda: text_of(call))
+    if len(suites) == 1:
+        return WannaBuild(call, settings, suites[0], text).carry_out()
+    return max([carried_out_in(WannaBuild(call, settings, suite, text, f" ({suite})")) for suite in suites])
+
+
+def carried_out_in(of_suite: WannaBuild) -> int:
+    """What a call to several suites ends with in one of them; what is said of it names the suite."""
+    if of_suite.call.action == "list" and "format" not in of_suite.call.said:
+        print(f"{of_suite.suite}:")
     try:
-        text = (
-            sys.stdin.buffer.read(1 << 24).decode(errors="replace")
-            if str(path) == "-"
-            else path.read_text(encoding="utf-8", errors="replace")
-        )
-    except OSError as error:
-        raise Fault(f"{path} cannot be read: {error.strerror}", NOT_SENT) from None
-    fields = dict(re.findall(r"^(Source|Version|Architecture|Distribution): *(.*?)[ \t\r]*$", text, re.M))
-    source, version = fields.get("Source", "").partition(" ")[0], fields.get("Version", "")
-    if not NAME.fullmatch(source) or not version or not fields.get("Distribution"):
-        raise Fault(f"{path} has no Source, no Version or no Distribution: it is no .changes file", WRONG_WORDS)
-    archs = sorted(set(fields.get("Architecture", "").split()) - {"source"}, key=lambda arch: arch == "all")
-    return source, version, archs[0] if archs else "", fields["Distribution"].split()[0]
+        return of_suite.carry_out()
+    except NoAnswer as fault:
+        why, status = str(fault), NOT_SENT
+    except Fault as fault:
+        why, status = str(fault), fault.status
+        if status == WRONG_WORDS:
+            raise
+    tell(f"{of_suite.suite}: {why}")
+    return status
 
 
 def answered(call: Call, carry_out: Callable[[], int]) -> int:
@@ -467,6 +546,6 @@ def main(arguments: Sequence[str]) -> int:
     def carry_out() -> int:
         if call.fault:
             raise Fault(call.fault, WRONG_WORDS)
-        return WannaBuild(call, read_settings(call.settings)).carry_out()
+        return carried_out(call, read_settings(call.settings))
 
     return answered(call, carry_out)

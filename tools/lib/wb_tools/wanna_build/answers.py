@@ -18,15 +18,20 @@ def one_line(text: str) -> str:
 # ---- lists
 
 
-def list_line(record: Record) -> str:
-    """A line of a list: what stands before its last slash is dropped by buildd, and the rest up to a blank is taken."""
+def notes_of(record: Record) -> str:
+    """What stands in the brackets of a line."""
     notes = [record["priority"] or "-", "out-of-date" if record["earlier"] else "uncompiled"]
     if record["number"]:
         notes.append(f"binNMU{{{record['number']}}}")
     if record.get("build_priority"):
         notes.append(f"bp{{{record['build_priority']}}}")
+    return ":".join(notes)
+
+
+def list_line(record: Record) -> str:
+    """A line of a list: what stands before its last slash is dropped by buildd, and the rest up to a blank is taken."""
     held = f" by {record['holder']}" if record["holder"] else ""
-    return f"{record['section'] or '-'}/{record['source']}_{record['version']}{held} [{':'.join(notes)}]"
+    return f"{record['section'] or '-'}/{record['source']}_{record['version']}{held} [{notes_of(record)}]"
 
 
 def list_of(records: Sequence[Record], state: str) -> Iterator[str]:

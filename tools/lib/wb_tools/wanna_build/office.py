@@ -127,6 +127,15 @@ def listed(said: Record | Refusal, key: str) -> list[Record] | Refusal:
     return found
 
 
+def another_version(record: Record) -> str:
+    """What is said of a version that is not that of a record; it may differ in the number of a rebuild alone."""
+    return f"the office has version {record['build']}"
+
+
+def held_by(record: Record) -> str:
+    return f", held by {record['holder']}" if record["holder"] else ""
+
+
 def is_of(record: Record, version: str) -> bool:
     """Whether a version, as buildd names it, is that of a record: of the source, or of what is built of it."""
     return version in (record.get("version"), record.get("build"))

@@ -9,10 +9,13 @@ from __future__ import annotations
 
 import sys
 import time
-from collections.abc import Callable, Mapping
+from collections.abc import Callable, Mapping, Sequence
+from typing import TypeVar
 
-from wb_tools.wanna_build.office import NOT_SET_UP, NoAnswer, Office, Record, Refusal, is_of
-from wb_tools.wanna_build.settings import Fault, Settings
+from wb_tools.wanna_build.office import (
+    NOT_SET_UP, NoAnswer, Office, Record, Refusal, another_version, held_by, is_of,
+)
+from wb_tools.wanna_build.settings import WRONG_WORDS, Fault, Settings
 from wb_tools.wanna_build.state import ATTEMPTED, BUILDING, BUILT, ENDED, Debt, Kept, StateFile, Take
 
 # The command by which each report is sent, and the states that show that it was heard.
@@ -22,9 +25,15 @@ COMMANDS = {
 HEARD = {"built": {"Built", "Uploaded"}, "uploaded": {"Uploaded"}}
 AFTER = {"attempted": "Build-Attempted", "give-back": "Needs-Build", "dep-wait": "Dep-Wait", "uploaded": "Installed"}
 FIRST_PAUSE, LONGEST_PAUSE = 0.2, 5.0  # seconds between two tries
+Said = TypeVar("Said")
 
 
-def tried(seconds: float, once: Callable[[], str]) -> str:
+def reason_of(builder: str) -> str:
+    """The reason of a failed build, of which buildd gives none: by it is known who was the last to try."""
+    return f"the build failed on {builder}"
+
+
+def tried(seconds: float, once: Callable[[], Said]) -> Said:
     """What a step answers that is tried again until it has an answer, or for so long."""
     end, pause = time.monotonic() + seconds, FIRST_PAUSE
     while True:
@@ -37,13 +46,6 @@ def tried(seconds: float, once: Callable[[], str]) -> str:
                 print(f"wanna-build: {why}; trying again for {seconds:.0f} s", file=sys.stderr, flush=True)
         time.sleep(pause)
         pause = min(2 * pause, LONGEST_PAUSE)
-
-
-def known(said: Record | Refusal | list[Record]) -> Record | Refusal | list[Record]:
-    """An answer, unless it shows that the office was not set up: what is owed waits until it is."""
-    if isinstance(said, Refusal) and said.name in NOT_SET_UP:
-        raise NoAnswer(str(said))
-    return said
 
 
 class Reports:
@@ -105,7 +107,38 @@ class Reports:
         if take and stage and take.take == debt.take and take.stage in (BUILDING, BUILT):
             take.stage = stage
 
+    def owed_as(self, word: str, suites: Sequence[str], arch: str, builder: str) -> list[Debt]:
+        """What is owed under a take number, or of a package, as a word names it; of the suites, the architecture and
+        the builder that are given. A Fault says if that is nothing, or is owed by several."""
+        found = [
+            debt
+            for debt in self.kept.owed
+            if word in (str(debt.take), f"{debt.source}_{debt.version}")
+            and (not suites or debt.suite in suites)
+            and arch in ("", debt.arch)
+            and builder in ("", debt.builder)
+        ]
+        if not found:
+            raise Fault(f"nothing is owed as {word}; --owed shows what is")
+        if len({(debt.suite, debt.arch, debt.builder) for debt in found}) > 1:
+            raise Fault(f"{word} is owed by several; --dist, --arch and --user say by which", WRONG_WORDS)
+        return found
+
+    def forget(self, debts: Sequence[Debt]) -> None:
+        for debt in debts:
+            self.kept.owed.remove(debt)
+            self.settings.note(f"forgotten: {debt}")
+        self.state.write()
+
     # -- one report
+
+    def known(self, debt: Debt, said: Record | Refusal | list[Record]) -> Record | Refusal | list[Record]:
+        """An answer, unless it shows that the office was not set up: a report on what was taken waits until it is. Any
+        other is refused then, since it would wait for ever."""
+        is_of_take = debt.take is not None or self.kept.find(debt.suite, debt.arch, debt.builder, debt.source)
+        if isinstance(said, Refusal) and said.name in NOT_SET_UP and is_of_take:
+            raise NoAnswer(str(said))
+        return said
 
     def deliver(self, debt: Debt) -> str:
         """Sends a report until the office has answered. Says why it was refused, if it was."""
@@ -155,10 +188,9 @@ class Reports:
             return {"reason": debt.text}
         return {"relations": debt.text} if debt.word == "dep-wait" else {}
 
-    @staticmethod
-    def held(office: Office, debt: Debt) -> Record | str:
+    def held(self, office: Office, debt: Debt) -> Record | str:
         """What is held under the take number of a report; why nothing is, if so."""
-        records = known(office.mine(debt.builder))
+        records = self.known(debt, office.mine(debt.builder))
         if isinstance(records, Refusal):
             return str(records)
         found = [record for record in records if record["take"] == debt.take]
@@ -184,7 +216,7 @@ class Reports:
     def find_take(self, office: Office, debt: Debt) -> bool:
         """Finds what the builder holds of a package, or takes it if the report may do so. Says whether it is held."""
         while True:
-            record = known(office.item(debt.arch, debt.source))
+            record = self.known(debt, office.item(debt.arch, debt.source))
             if isinstance(record, Refusal) or not is_of(record, debt.version):
                 return False
             if record["holder"] == debt.builder:
@@ -206,16 +238,14 @@ class Reports:
 
     def without_hold(self, office: Office, debt: Debt) -> str:
         """What is said of a report on what the builder does not hold: nothing if it is so already."""
-        record = known(office.item(debt.arch, debt.source))
+        record = self.known(debt, office.item(debt.arch, debt.source))
         if isinstance(record, Refusal):
             return str(record)
         if not is_of(record, debt.version):
-            return f"the office has version {record['version']}"
+            return another_version(record)
         if record["state"] == AFTER.get(debt.word):
             return ""
-        return f"{debt.builder} does not hold it: it is {record['state']}" + (
-            f", held by {record['holder']}" if record["holder"] else ""
-        )
+        return f"{debt.builder} does not hold it: it is {record['state']}{held_by(record)}"
 
     # -- what becomes of a report
 
@@ -230,7 +260,7 @@ class Reports:
 
     def ended(self, office: Office, debt: Debt, why: str) -> str:
         """What is said of a report whose hold has ended: nothing, if it was heard before or is so all the same."""
-        record = known(office.item(debt.arch, debt.source))
+        record = self.known(debt, office.item(debt.arch, debt.source))
         is_so = (
             not isinstance(record, Refusal) and is_of(record, debt.version) and record["state"] == AFTER.get(debt.word)
         )
