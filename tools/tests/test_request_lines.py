@@ -9,7 +9,6 @@ From the environment: WB is the program, crates/wb/out/wb of this repository whe
 import re
 import subprocess
 import sys
-import threading
 
 from harness import BIN, answers_of, expect, expect_none, main, program
 from look_runs import in_terminal
@@ -462,18 +461,25 @@ def wait_for_an_office_that_starts(folder):
     """An office that is stopped is asked again; if it does not come back, nothing more is sent."""
     with Network(folder, LISTED) as net:
         net.office.stop()
-        starts = threading.Timer(1.0, net.office.start)
-        starts.start()
-        rows, _ = rows_of(call(net, "nfu baz . amd64\n")[0])
-        starts.join()
+
+        class Asked(list):
+            """What the gate was asked. The office comes back before the fourth request."""
+
+            def append(self, entry):
+                super().append(entry)
+                if len(self) == 4:
+                    net.office.start()
+
+        net.gate.asked = Asked()
+        rows, _ = rows_of(call(net, "nfu baz . amd64\n", "--wait", "30")[0])
         expect(rows[0][4] == "accepted", f"the rows are {rows}")
         net.gate.lose = [("/v1/fail", "request")] * 99
-        lines = "bp 5 foo . ANY\nfail only . amd64 . -m x\nbp 6 foo . ANY\nbp 7 baz . amd64\n"
+        lines = "bp 5 foo . ANY\nfail bar baz -o . ANY . -m x\nbp 7 baz . amd64\n"
         said, noted = call(net, lines, *BOTH, "--wait", "0", status=3)
         rows, counts = rows_of(said)
         answers = [row[4] for row in rows]
-        expect(answers == ["accepted", "accepted", "no answer", *["not sent"] * 3], f"the rows are {rows}")
-        expect(counts == "2 accepted, 1 no answer, 3 not sent", f"the counts are {counts}")
+        expect(answers == ["accepted", "accepted", "no answer", *["not sent"] * 4], f"the rows are {rows}")
+        expect(counts == "2 accepted, 1 no answer, 4 not sent", f"the counts are {counts}")
         expect("no answer, or a part of one" in noted and net.item("foo")["build_priority"] == 5, f"it says {noted}")
         net.office.stop()
         rows, _ = rows_of(call(net, "bp 5 foo . ANY\n", *BOTH, "--wait", "0", status=3)[0])
