@@ -307,7 +307,7 @@ def helps_with_each_subcommand(folder):
         asked += [[name, *GOOD[name], "-h"]] if name in GOOD else []
         for given in asked:
             expect(words(folder, *given) == (0, entry, ""), f"{given}: {words(folder, *given)} in place of {entry}")
-    expect("Example: next amd64 b1 --after 0" in entries["next"] and "take" not in entries["next"], entries["next"])
+    expect("Example: next amd64 b1 --after 0" in entries["next"] and "take ARCH" not in entries["next"], entries["next"])
     expect(entries["run"].count("\n\n") == 2 and "Answers the commands of its input" in entries["run"], entries["run"])
     expect(list(folder.iterdir()) == [], "a file was made")
     for given in (["queue", "a", "b", "-h"], ["queue", "-x", "-h"], ["queue", "--", "a", "b", "-h"]):
@@ -393,7 +393,7 @@ REFUSED_WORDS = [
     (["take", "amd64", "b/1", "hello", "1.0"], "BadName", f'BUILDER is "b/1", and has to be {BUILDER}'),
     (["take", "amd64", "b1", "Hello", "1.0"], "BadName", f'SOURCE is "Hello", and has to be {SOURCE}'),
     (["take", "amd64", "b1", "hello", ""], "BadVersion", f'VERSION is "": {EMPTY_VERSION}'),
-    (["waits", "1", "libc6 ("], "BadRelations", "RELATIONS: the relations are refused: an operator is missing or bad"),
+    (["waits", "1", "libc6 ("], "BadRelations", "RELATIONS: the relations are refused: a bracket is not closed"),
     (["attempted", "1", "x" * 1001], "TextTooLong", "REASON has 1001 bytes, and may have 1000"),
     (["give-back", "amd64", "h\x1b", "1.0"], "BadName", f'SOURCE is "h\\u{{1b}}", and has to be {SOURCE}'),
     (["give-back", "amd64", "hello", "1_0"], "BadVersion", f'VERSION is "1_0": {NOT_A_VERSION}'),

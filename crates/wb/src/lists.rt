@@ -1,4 +1,6 @@
 //! The lists and reports that stand in files, or come from pipes.
+ghost use Rattle.std.specs.Prelude.{IfOk};
+ghost use Rattle.std.specs.Counts.{IsPrefixLen};
 
 use crate::compression::compressor_of;
 use crate::progress::{is_watched, size_of_long};
@@ -99,7 +101,9 @@ pub(crate) struct FileList<'a, F: Files> {
 
 impl<'a, F: Files + Eprint> FileList<'a, F> {
     /// Reads on, and says of the first bytes if they are those of a compressed file: what follows is no text then.
-    fn read_on(&mut self, room: &mut [u8]) -> io::Result<usize> {
+    fn read_on(&mut self, room: &mut [u8]) -> io::Result<usize>
+        ensures bound { IfOk result (λ count. IsPrefixLen count room.new) }
+    {
         let count = self.file.read(room)?;
         if self.read == 0 {
             if let Some(program) = room.get(..count).and_then(|bytes| compressor_of(bytes)) {
