@@ -100,12 +100,16 @@ WAYS = {
     "Dep-Wait": "dep-wait", "BD-Uninstallable": "report", "Failed": "fail", "Not-For-Us": "not-for-us",
     "Build-Attempted": "take attempted",
 }  # fmt: skip
-WORDS = ("--give-back", "--dep-wait", "--failed", "--no-build", "--binNMU=1", "--build-priority=7", "--take", "--built",
-         "--attempted", "--uploaded")  # fmt: skip
+# Words, and who says them: the builder that holds what is held, or a porter who ends holds.
+WORDS = [
+    (word, "b1")
+    for word in ("--give-back", "--dep-wait", "--failed", "--no-build", "--binNMU=1", "--build-priority=7", "--take",
+                 "--built", "--attempted", "--uploaded")
+] + [("--give-back", "porter"), ("--dep-wait", "porter")]  # fmt: skip
 
 
-def name_of(word, state):
-    return f"{word.strip('-').partition('=')[0]}-of-{state}".lower()
+def name_of(word, user, state):
+    return f"{word.strip('-').partition('=')[0]}-of-{state}-by-{user}".lower()
 
 
 def bring(net, source, way):
@@ -128,22 +132,22 @@ def simulates_each_word_in_each_state(folder):
     listed = {("amd64", "hello"): ("1.0", "extra", "games", False)}
     for word in WORDS:
         for state in WAYS:
-            listed["amd64", name_of(word, state)] = ("1.0", "optional", "devel", state == "Installed")
+            listed["amd64", name_of(*word, state)] = ("1.0", "optional", "devel", state == "Installed")
     with Network(folder, listed) as net:
-        for word in WORDS:
-            sources = {state: name_of(word, state) for state in WAYS}
+        for word, user in WORDS:
+            sources = {state: name_of(word, user, state) for state in WAYS}
             for state, source in sources.items():
                 bring(net, source, WAYS[state])
             before = {source: net.state_of(source) for source in sources.values()}
-            words = (word, "-m", "libz", *(f"{source}_1.0" for source in sources.values()))
+            words = (word, "-o", "-m", "libz", *(f"{source}_1.0" for source in sources.values()))
             status = 0 if word.startswith("--build-priority") else 1
             net.requests()
-            said, noted = net.call("--simulate", *words, wanted=status)
+            said, noted = net.call("--simulate", *words, wanted=status, user=user)
             expect(not posted(net) and not net.state.exists(), f"{word}: something was sent or written")
             shown = {line.partition("_1.0 (sid, amd64): ")[0]: line.partition("): ")[2] for line in said.splitlines()}
-            refused = set(re.findall("^wanna-build: ([a-z-]+)_1.0: ", noted, re.M))
+            refused = set(re.findall("^wanna-build: ([a-z0-9-]+)_1.0: ", noted, re.M))
             expect(set(shown) | refused == set(before) and len(before) == len(shown) + len(refused), f"{said}{noted}")
-            net.call(*words, wanted=status)
+            net.call(*words, wanted=status, user=user)
             for source, was in before.items():
                 if source in refused:
                     wanted = was.split()[0]
@@ -155,6 +159,19 @@ def simulates_each_word_in_each_state(folder):
                 found = net.state_of(source).split()[0]
                 expect(found == wanted, f"{source} is {found} after {word}: it was shown as {shown.get(source)}")
             net.state.unlink(missing_ok=True)
+
+
+def waits_once_for_many(folder):
+    """An office that does not answer is waited for once, and not for each package."""
+    with Network(folder) as net:
+        packages = ("hello_1.0-1", "zlib_1:1.2.13-1", "libsigc++-2.0_2.12.0-1")
+        net.gate.lose = [("/v1/item", "request")] * 100
+        net.call("--no-build", "-m", "why", *packages, wanted=3)
+        asked = [request for request in net.requests() if "item" in request]
+        expect(asked.count("GET /v1/item/amd64/hello") > 1 and len(set(asked)) == 3, f"it asks {asked}")
+        expect(all(asked.count(each) == 1 for each in asked if "hello" not in each), f"it waits again: {asked}")
+        net.gate.lose = []
+        net.says("", "--no-build", "-m", "why", *packages)
 
 
 def simulates_for_others(folder):
@@ -243,6 +260,7 @@ def asks_several_suites(folder):
             f"STORE=/s\nBACKUPS=/b\nPORT={free_port()}\nSERVICE=pidfile\nPID_FILE=/p\nLOG=/l\n"
         )
         (folder / "office.conf").write_text((folder / "third.conf").read_text())
+        (folder / "unstable.conf").write_text(re.sub("PORT=.*", f"PORT={port}", (folder / "third.conf").read_text()))
         said, noted = net.call("-d", "all", *words, user=None, wanted=3)
         expect(said == f"{both}third:\n" and "third: no answer" in noted, f"it says {said}{noted}")
         net.requests()
@@ -533,8 +551,8 @@ def waits_for_a_stopped_office_with_info(folder):
 
 
 TESTS = [
-    names_what_the_caller_wrote, lists_in_an_order_and_a_form, simulates_each_word_in_each_state, simulates_for_others,
-    gives_back_what_a_builder_holds, asks_several_suites, holds_a_key_to_its_forced_command,
+    names_what_the_caller_wrote, lists_in_an_order_and_a_form, simulates_each_word_in_each_state, waits_once_for_many,
+    simulates_for_others, gives_back_what_a_builder_holds, asks_several_suites, holds_a_key_to_its_forced_command,
     leaves_a_builder_its_words,
     reads_changes_of_anybody, keeps_its_files_to_itself, leaves_what_root_makes_to_the_owner,
     needs_no_file_for_a_porter, refuses_what_no_office_accepts, forgets_what_is_owed,

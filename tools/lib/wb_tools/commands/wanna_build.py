@@ -5,6 +5,7 @@ from __future__ import annotations
 import os
 import sys
 from collections.abc import Callable, Iterator, Sequence
+from dataclasses import replace
 from functools import cache, cached_property
 from typing import Any
 
@@ -168,13 +169,15 @@ class WannaBuild:
         return self.each(self.say)
 
     def each(self, step: Callable[[str, str], str]) -> int:
-        """Takes a step for each package. It answers why it was refused, if it was."""
+        """Takes a step for each package, which answers why it was refused, if it was. Once an office was waited for in
+        vain it is asked once for each of the others."""
         status = DONE
         for source, version in self.call.packages():
             try:
                 why, end = step(source, version), REFUSED
             except NoAnswer as fault:
                 why, end = str(fault), NOT_SENT
+                self.settings = replace(self.settings, try_for=0)
             if why:
                 tell(f"{source}_{version}{self.mark}: {why}")
                 status = max(status, end)
