@@ -22,6 +22,7 @@ PACKAGES = "buildd sbuild sudo dupload exim4-daemon-light openssh-server openssh
 LONG = 120  # seconds that buildd has for what it is to do
 PAGE = ROOT / "docs/BUILDD.md"
 OFFICE = "office.example.org"  # the office's machine, as the page names it
+QUICK = "$idle_sleep_time = 1; $nice_level = 0; $max_sbuild_fails = 100; $min_free_space = 1024; $no_detach = 1;"
 ERROR = re.compile("E: |Err:|dpkg: error")
 
 SBUILD = r"""#!/bin/bash
@@ -126,6 +127,47 @@ def changed(text, *changes):
     return text
 
 
+def buildd_settings(api, has_mailfrom, is_forced):
+    """The page's settings of buildd, by which it does not sleep long, and does not leave its terminal."""
+    called = "wanna_build_ssh_host => '',        # wanna-build is called directly\n"
+    over_ssh = changed(block_of_page("wanna_build_ssh_host"), ("ConnectTimeout=30", "ConnectTimeout=5"))
+    mailfrom = "mailfrom => 'amd64 build daemon <buildd@b1.example.org>',   # answers to a log go there\n"
+    return changed(
+        block_of_page("$admin_mail"), ("$idle_sleep_time = 20;", QUICK),
+        (called, over_ssh if is_forced else f"wanna_build_api => {api}, {called}"),
+        (mailfrom, mailfrom if has_mailfrom else "\n"),
+    )
+
+
+def archive_settings(is_forced):
+    """The page's archive, with the hook of the upload; what is uploaded is not signed, and is copied to a folder."""
+    hook, over_ssh = "'/usr/bin/wanna-build --user=b1 --may-upload %1'", "The hook of the upload is `('[^`]*')`"
+    return changed(
+        block_of_page("$cfg{'my-archive'}"), ("'scpb', login => 'buildd'", "'copy'"),
+        ("/usr/share/dupload/openpgp-check", "/bin/echo checked"),
+        (hook, phrase_of_page(over_ssh) if is_forced else hook),
+    )
+
+
+def line_of_key(is_forced, port, key):
+    """The page's line for a key of buildd on the office's machine."""
+    line = block_of_page('command="wanna-build --forced' if is_forced else "restrict,port-forwarding")
+    ends = [] if is_forced else [("127.0.0.1:8080", f"127.0.0.1:{port}")]
+    return changed(line, ("ssh-ed25519 AAAA.. buildd@b1\n", key), *ends)
+
+
+def tunnel_command(own_port, port):
+    """The page's command of the tunnel, which finds out sooner that a link hangs."""
+    unit = re.search(r"^ExecStart=((?:.*\\\n)*.*)$", block_of_page("[Unit]"), re.M)[1]
+    ends = "127.0.0.1:8080:127.0.0.1:8080", f"127.0.0.1:{own_port}:127.0.0.1:{port}"
+    return changed(unit.replace("\\\n", " "), ends, ("ServerAliveInterval=10", "ServerAliveInterval=2"))
+
+
+def accepting_command():
+    """What the page says that the user buildd calls once, to accept the host's key."""
+    return phrase_of_page(r"# su - buildd -c '(ssh b1@\S+ true)'")
+
+
 # ---- programs
 
 
@@ -219,12 +261,14 @@ class System:
 
     def apt(self, *words):
         run(
-            self.inside(["apt-get", "-q", "-y", *words], DEBIAN_FRONTEND="noninteractive"),
+            self.inside(["apt-get", "-q", "-y", "-o", "Dpkg::Use-Pty=0", *words], DEBIAN_FRONTEND="noninteractive"),
             stderr=subprocess.STDOUT,  # the reason stands between what is said of the packages
         )
 
     def install(self, program):
         """Debian's packages by apt, and the Debian package of this repository by dpkg."""
+        no_index = "man-db man-db/auto-update boolean false"  # of pages of the manual, which takes a minute
+        run(self.inside(["sh", "-c", f"echo {no_index} | debconf-set-selections"]))
         self.apt("update")
         self.apt("install", "--no-install-recommends", *PACKAGES)
         said = run(self.inside(["dpkg-query", "-W", "-f", "${Package} ${Version}, ", *PACKAGES]))
@@ -286,16 +330,15 @@ class System:
 
 
 class Sshd:
-    """The sshd of the office's machine, with one key of buildd, and the line of this key."""
+    """The sshd of the office's machine, which knows one key of buildd."""
 
-    def __init__(self, system, line):
+    def __init__(self, system, is_forced, office_port):
         self.system, self.port, self.process = system, free_port(), None
         system.put(f"{HOME}/.ssh/config", f"Host {OFFICE}\nHostName 127.0.0.1\nPort {self.port}\n", 0o600, "buildd")
         run(system.as_buildd("ssh-keygen -q -t ed25519 -N '' -f ~/.ssh/id_ed25519"))
         key = (system.home(".ssh/id_ed25519.pub")).read_text()
         run(system.as_user("b1", "mkdir -m 700 .ssh"))
-        line = changed(line, ("ssh-ed25519 AAAA.. buildd@b1\n", key))
-        system.put("home/b1/.ssh/authorized_keys", line, 0o600, "b1")
+        system.put("home/b1/.ssh/authorized_keys", line_of_key(is_forced, office_port, key), 0o600, "b1")
         self.start()
         self.accept_key()
 
@@ -312,9 +355,8 @@ class Sshd:
         return False
 
     def accept_key(self):
-        """What the page says that the user buildd does once; it is refused the command, and never the key."""
-        words = phrase_of_page(r"# su - buildd -c 'ssh (b1@\S+ true)'")
-        command = f"ssh -o StrictHostKeyChecking=accept-new {words}"
+        """The user buildd accepts the host's key: he is refused the command, and not by ssh."""
+        command = accepting_command().replace("ssh ", "ssh -o StrictHostKeyChecking=accept-new ", 1)
         done = subprocess.run(
             self.system.as_buildd(command), stdin=subprocess.DEVNULL, capture_output=True, text=True, check=False
         )
@@ -345,10 +387,7 @@ class Tunnel:
 
     def __init__(self, system, office_port):
         self.system, self.port, self.process, self.is_wanted = system, free_port(), None, True
-        unit = re.search(r"^ExecStart=((?:.*\\\n)*.*)$", block_of_page("[Unit]"), re.M)[1]
-        ends = "127.0.0.1:8080:127.0.0.1:8080", f"127.0.0.1:{self.port}:127.0.0.1:{office_port}"
-        quick = "ServerAliveInterval=10", "ServerAliveInterval=2"
-        self.command = changed(unit.replace("\\\n", " "), ends, quick)
+        self.command = tunnel_command(self.port, office_port)
         self.keeper = threading.Thread(target=self.keep, daemon=True)
         self.keeper.start()
 

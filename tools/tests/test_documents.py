@@ -14,6 +14,7 @@ import sys
 from pathlib import Path
 
 from harness import DEV, ROOT, expect, expect_none, main
+from buildd_system import accepting_command, archive_settings, buildd_settings, line_of_key, tunnel_command
 
 
 def text_of(name):
@@ -309,6 +310,21 @@ def schema_has_the_numbers():
     expect(rank in queue and "* 348 + (6 * new + priority) * 29 + section" in page, "the rank is another")
 
 
+# ---- buildd
+
+
+def page_of_buildd_has_what_is_tried():
+    """The settings, hooks, keys and commands that tools/dev/try-buildd takes from the page stand there."""
+    for is_forced in (False, True):
+        for made in (buildd_settings(1, not is_forced, is_forced), archive_settings(is_forced)):
+            expect("example.org" in made, f"docs/BUILDD.md has {made}")
+        line = line_of_key(is_forced, 9999, "ssh-ed25519 KEY\n")
+        expect(line.endswith(" ssh-ed25519 KEY\n") and (is_forced or ":9999" in line), f"docs/BUILDD.md has {line}")
+    command = tunnel_command(9998, 9999)
+    expect(command.startswith("/usr/bin/ssh -N ") and "127.0.0.1:9998:127.0.0.1:9999" in command, f"it is {command}")
+    expect(accepting_command().endswith(" true"), f"docs/BUILDD.md has {accepting_command()}")
+
+
 # ---- deviations and faults
 
 
@@ -361,7 +377,7 @@ TESTS = [
     claims_and_contracts_fit, claims_that_do_not_fit_are_found, clauses_that_went_are_found,
     readme_shows_the_stored_run, readme_names_the_kit, readme_of_tools_names_each_file,
     link_to_pages, link_to_headings, sources_of_the_architecture_exist, schema_has_the_tables,
-    schema_has_the_numbers, deviations_name_definitions, faults_speak_of_each_answer,
+    schema_has_the_numbers, page_of_buildd_has_what_is_tried, deviations_name_definitions, faults_speak_of_each_answer,
 ]
 
 if __name__ == "__main__":
