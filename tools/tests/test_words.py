@@ -307,7 +307,8 @@ def helps_with_each_subcommand(folder):
         asked += [[name, *GOOD[name], "-h"]] if name in GOOD else []
         for given in asked:
             expect(words(folder, *given) == (0, entry, ""), f"{given}: {words(folder, *given)} in place of {entry}")
-    expect("Example: next amd64 b1 --after 0" in entries["next"] and "take ARCH" not in entries["next"], entries["next"])
+    following = entries["next"]
+    expect("Example: next amd64 b1 --after 0" in following and "take ARCH" not in following, following)
     expect(entries["run"].count("\n\n") == 2 and "Answers the commands of its input" in entries["run"], entries["run"])
     expect(list(folder.iterdir()) == [], "a file was made")
     for given in (["queue", "a", "b", "-h"], ["queue", "-x", "-h"], ["queue", "--", "a", "b", "-h"]):
