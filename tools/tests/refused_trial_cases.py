@@ -92,11 +92,19 @@ def lives(skipped):
 
 
 def two_lives():
-    """Two lives of two commands each, over new files."""
+    """Two lives of two commands each, over new files. The files come back also of a life that is refused, or that is
+    not closed."""
     files = {f"life-{at}": "".join(f"add-arch {name} linux {name}\n" for name in life) for at, life in enumerate(LIVES)}
-    refused = [[FAULT], [FAULT, "left 2", GONE], [*lives(None)[:3], FAULT, "cut 2", "left 1", GONE]]
+    first = [as_line(row) for row in rows(0, len(LIVES[0]), archs=sorted(LIVES[0]), builders=[])]
+    begun = lives(None)[:3]
+    refused = [
+        [FAULT],
+        [FAULT, "cut 0", "left 1", *map(as_line, EMPTY)],
+        [*begun, FAULT, "cut 2", "cut 2", "left 0", *first],
+    ]
+    unclosed = [[*begun, "cut 2", "left 1", *first]]
     return Trial(
-        f"lives {NEVER} {NEVER} life-0 life-1", lives(None), refused + [lives(at) for at in range(4)], [], files
+        f"lives {NEVER} {NEVER} life-0 life-1", lives(None), refused + [lives(at) for at in range(4)], unclosed, files
     )
 
 

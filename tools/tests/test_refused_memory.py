@@ -688,7 +688,7 @@ def main(wanted):
         for said, is_passed in pool.map(lambda name: said_of(name, chosen[name], tools), chosen):
             print(said, flush=True)
             passed += is_passed
-    print(f"{passed} of {len(chosen)} passed")
+    print(f"{passed} passed, {len(chosen) - passed} failed")
     return 0 if passed == len(chosen) else 1
 
 
