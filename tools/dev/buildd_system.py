@@ -141,7 +141,7 @@ def buildd_settings(api, has_mailfrom, is_forced):
 
 def archive_settings(is_forced):
     """The page's archive, with the hook of the upload; what is uploaded is not signed, and is copied to a folder."""
-    hook, over_ssh = "'/usr/bin/wanna-build --user=b1 --may-upload %1'", "The hook of the upload is `('[^`]*')`"
+    hook, over_ssh = "'/usr/bin/wanna-build --user=b1 --may-upload %1'", r"The hook of the upload is\s`('[^`]*')`"
     return changed(
         block_of_page("$cfg{'my-archive'}"), ("'scpb', login => 'buildd'", "'copy'"),
         ("/usr/share/dupload/openpgp-check", "/bin/echo checked"),

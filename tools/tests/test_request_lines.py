@@ -294,8 +294,8 @@ def name_versions_and_packages_that_are_there(folder):
         absent = ["refused", "the office has no such package"]
         expect([row[4:] for row in rows] == [
             ["refused", "it is Needs-Build"], ["not there"], absent, ["refused", "it is Needs-Build"], absent, absent,
-            ["refused", "the office has 2:1.0-1"], ["refused", "it is Needs-Build"],
-            ["refused", "the office has no such architecture"], ["refused", "the office has 1-1"],
+            ["refused", "the office has version 2:1.0-1"], ["refused", "it is Needs-Build"],
+            ["refused", "the office has no such architecture"], ["refused", "the office has version 1-1"],
         ], f"the rows are {rows}")
         expect(counts == "0 accepted, 9 refused, 1 not there", f"the counts are {counts}")
 

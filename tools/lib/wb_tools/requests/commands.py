@@ -1,15 +1,13 @@
 """The commands of an office that a request becomes, for tools/bin/wb-requests: as the body of a request of HTTP, as a
 line of a run, and what a record is before and after each (docs/PROTOCOL.md, "Moves")."""
 import re
-from collections.abc import Mapping
 from dataclasses import dataclass
 from typing import Any
 
 from wb_tools.lists import is_version, version_key
 from wb_tools.moves import MOVES
 from wb_tools.requests.lines import Package, Request
-
-Record = Mapping[str, Any]
+from wb_tools.wanna_build.office import Record, another_version, held_by
 
 GREATEST = 999  # number of a rebuild
 
@@ -55,14 +53,10 @@ def next_number(records: list[Record]) -> int:
     return max((record["number"] for record in records), default=0) + 1
 
 
-def held_by(record: Record) -> str:
-    return f", held by {record['holder']}" if record["holder"] else ""
-
-
 def refusal_before(order: Order, record: Record) -> str:
     """Why an order is not sent: the record has another version, or the order would end a hold and does not say so."""
     if not is_of(record, order.package.version):
-        return f"the office has {record['build']}"
+        return another_version(record)
     if order.command in ("build-priority", "rebuild") or order.request.ends_holds or not record["holder"]:
         return ""
     return f"it is {record['state']}{held_by(record)}; -o in the line ends the hold"

@@ -8,10 +8,10 @@ from typing import Any
 
 from wb_tools.lists import say
 from wb_tools.requests.commands import (
-    Order, Record, after, change, held_by, is_carried_out, is_of, next_number, refusal_before, refusal_of,
+    Order, after, change, is_carried_out, is_of, next_number, refusal_before, refusal_of,
 )
 from wb_tools.requests.lines import Package, Request
-from wb_tools.wanna_build.office import NoAnswer, Office, Refusal
+from wb_tools.wanna_build.office import NoAnswer, Office, Record, Refusal, held_by
 
 # What came of an order. ABSENT: ANY or ALL stands for an architecture that does not have the package.
 ACCEPTED, REFUSED, ABSENT, NO_ANSWER, NOT_SENT = "accepted", "refused", "not there", "no answer", "not sent"
@@ -136,7 +136,7 @@ def why(refusal: Refusal) -> str:
     if refusal.name == "WrongState":
         return f"it is {refusal.more.get('state')}"
     if refusal.name == "OtherVersion":
-        return f"the office has {refusal.more.get('have')}"
+        return f"the office has version {refusal.more.get('have')}"
     if refusal.name == "BadRelations" and refusal.more.get("fault") == "Nothing":
         return "nothing of the relations is left for this architecture"
     said = {"UnknownArch": "the office has no such architecture", "UnknownSource": "the office has no such package"}

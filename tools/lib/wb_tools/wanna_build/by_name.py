@@ -10,6 +10,7 @@ from collections.abc import Mapping
 from dataclasses import dataclass
 from typing import Any
 
+from wb_tools.moves import MOVES
 from wb_tools.wanna_build.office import Office, Record, Refusal, another_version, held_by, is_of
 from wb_tools.wanna_build.reports import reason_of, tried
 from wb_tools.wanna_build.settings import WRONG_WORDS, Fault
@@ -18,21 +19,11 @@ from wb_tools.wanna_build.words import Call
 MOST_TEXT = 1000  # bytes of a note
 PRIORITIES, NUMBERS = range(-1000, 1001), range(1, 1000)  # build priorities, and numbers of rebuilds
 
-# The command for each action; and the states from which each moves a record, and the state to which it does, as
-# docs/PROTOCOL.md, "Moves", has them. A build priority moves none.
+# The command for each action. A build priority moves nothing.
 COMMANDS = {
     "give-back": "give-back", "dep-wait": "dep-wait", "failed": "fail", "not-for-us": "not-for-us",
     "rebuild": "rebuild", "build-priority": "build-priority",
 }  # fmt: skip
-MOVES = {
-    "give-back": (
-        "Building Built Uploaded Dep-Wait BD-Uninstallable Failed Not-For-Us Build-Attempted".split(), "Needs-Build",
-    ),
-    "dep-wait": ("Needs-Build Building BD-Uninstallable Failed Build-Attempted".split(), "Dep-Wait"),
-    "fail": ("Needs-Build Building Built Dep-Wait BD-Uninstallable Build-Attempted".split(), "Failed"),
-    "not-for-us": ("Needs-Build Building Dep-Wait BD-Uninstallable Failed Build-Attempted".split(), "Not-For-Us"),
-    "rebuild": (["Installed"], "Needs-Build"),
-}
 
 
 def cut(text: str) -> str:
