@@ -17,7 +17,7 @@ use Rattle.deb_relations.specs.Printing.{term_text}
 use Rattle.deb_text.specs.Lists.{is_nonempty}
 use Rattle.deb_relations.specs.Grammar.{is_white, is_blank_text, is_profile_char, is_op_char, is_qualifier, is_word, is_not_blank, op_of, words, TakesName, TakesQualifier, InBrackets, IsRestriction, TakesRestriction, ReadsTerms, TakesArchs, ReadsProfiles, ReadsAlternative, ReadsGroup, Reads}
 use Rattle.deb_relations.specs.Names.{is_lower_or_digit, is_package_char, is_arch_char, begins_with_lower_or_digit, is_package_name, is_arch_word}
-use Rattle.deb_relations.specs.Reader.{skip, strip, is_solid, between, between_opened, read_between, with_rest, read_name, read_behind_colon, read_qualifier, asked_of, asked_behind, asked_from, restriction_of, asked_inside, read_restriction, term_behind, term_of, filled_only, terms_of, alike_only, archs_of, read_archs, profile_behind, profile_of, lists_of, read_profiles, with_profiles, with_archs, with_asked, with_qualifier, with_name, read_alternative, read_group, read_groups}
+use Rattle.deb_relations.specs.Reader.{skip, strip, is_solid, between, between_opened, read_between, with_rest, read_name, read_behind_colon, read_qualifier, asked_of, asked_behind, asked_from, restriction_of, asked_inside, read_restriction, term_behind, term_of, filled_only, terms_of, alike_only, arch_terms_of, read_archs, profile_behind, profile_of, lists_of, read_profiles, with_profiles, with_archs, with_asked, with_qualifier, with_name, read_alternative, read_group, read_groups}
 use Rattle.deb_text.specs.Options.{both, all_some}
 use Rattle.deb_relations.proofs.FrontLemmas.{stops, opens, take_while-all, skip-all, opens-stops, opens-weaker, all-weaker, all-both, skip-cons}
 use Rattle.deb_relations.proofs.CutLemmas.{strip-here, cut-here, split-here, split-none}
@@ -358,14 +358,14 @@ unfolding is_white
 white-angle c h = grind (arith, nat_tests)
 
 pub archs-complete : (t : List ℕ) (terms : List Term) (rest : List ℕ) → TakesArchs t terms rest → opens is_angle (skip is_white rest) → read_archs t ≡ Some (terms, rest)
-unfolding read_archs is_white archs_of is_profile_char
+unfolding read_archs is_white arch_terms_of is_profile_char
 archs-complete t [] rest h o =
     let none : between 91 93 t ≡ Some None = between-none is_angle 91 93 t (subst (λ (x : List ℕ). opens is_angle (skip is_white x)) (sym h) o) refl in
-    ap (read_between archs_of [] t) none ∙ ap (λ x. Some ([], x)) h
+    ap (read_between arch_terms_of [] t) none ∙ ap (λ x. Some ([], x)) h
 archs-complete t (term ∷ terms) rest h o =
     let inside : List ℕ = h.0 in
     let found : between 91 93 t ≡ Some (Some (inside, rest)) = between-complete 91 93 t inside rest h.1.0 refl (terms-inside Arch 93 refl refl white-square inside (term ∷ terms) h.1.1.0) in
-    ap (read_between archs_of [] t) found
+    ap (read_between arch_terms_of [] t) found
     ∙ ap (λ x. with_rest rest (alike_only x)) (terms-complete Arch inside (term ∷ terms) h.1.1.0)
     ∙ ap (λ v. with_rest rest (cond v (Some (term ∷ terms)) None)) h.1.1.1
 

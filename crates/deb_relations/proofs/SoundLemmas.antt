@@ -16,7 +16,7 @@ use Rattle.deb_relations.specs.Printing.{term_text}
 use Rattle.deb_text.specs.Lists.{is_nonempty}
 use Rattle.deb_relations.specs.Grammar.{is_white, is_blank_text, is_op_char, is_qualifier, is_word, is_not_blank, op_of, words, are_alike, TakesName, TakesQualifier, InBrackets, IsRestriction, TakesRestriction, ReadsTerms, TakesArchs, ReadsProfiles, ReadsAlternative, ReadsGroup, Reads, relations_limit}
 use Rattle.deb_relations.specs.Names.{is_package_char, is_arch_char, is_package_name}
-use Rattle.deb_relations.specs.Reader.{skip, strip, cut, is_solid, between, between_opened, read_between, with_rest, read_name, read_behind_colon, read_qualifier, asked_of, restriction_of, asked_inside, read_restriction, term_behind, term_of, filled_only, terms_of, alike_only, archs_of, read_archs, profile_behind, profile_of, lists_of, read_profiles, with_profiles, with_archs, with_asked, with_qualifier, with_name, read_alternative, read_group, read_groups}
+use Rattle.deb_relations.specs.Reader.{skip, strip, cut, is_solid, between, between_opened, read_between, with_rest, read_name, read_behind_colon, read_qualifier, asked_of, restriction_of, asked_inside, read_restriction, term_behind, term_of, filled_only, terms_of, alike_only, arch_terms_of, read_archs, profile_behind, profile_of, lists_of, read_profiles, with_profiles, with_archs, with_asked, with_qualifier, with_name, read_alternative, read_group, read_groups}
 use Rattle.deb_text.specs.Options.{both, all_some}
 use Rattle.deb_relations.proofs.FrontLemmas.{take_while-skip}
 use Rattle.deb_text.proofs.ListLemmas.{take_while-passes}
@@ -234,21 +234,21 @@ alike-by : (inside : List ℕ) (o : Option (List Term)) → terms_of Arch inside
 alike-by inside None e terms h = absurd (cc)
 alike-by inside (Some xs) e terms h = alike-at inside xs (are_alike xs) refl (terms-sound Arch inside xs e) terms h
 
-archs_of-sound : (inside : List ℕ) (terms : List Term) → archs_of inside ≡ Some terms → ReadsTerms Arch inside terms × (are_alike terms ≡ true)
-unfolding archs_of
+archs_of-sound : (inside : List ℕ) (terms : List Term) → arch_terms_of inside ≡ Some terms → ReadsTerms Arch inside terms × (are_alike terms ≡ true)
+unfolding arch_terms_of
 archs_of-sound inside terms h = alike-by inside (terms_of Arch inside) refl terms h
 
 archs-in : (t inside rest : List ℕ) → InBrackets 91 93 t inside rest → (terms : List Term) → ReadsTerms Arch inside terms × (are_alike terms ≡ true) → TakesArchs t terms rest
 archs-in t inside rest b [] r = let none : false ≡ true = r.0.filled in absurd (cc)
 archs-in t inside rest b (x ∷ xs) r = (inside, (b, (r.0, r.1)))
 
-archs-by : (t : List ℕ) (x : List Term) (rest : List ℕ) → IsPart archs_of [] 91 93 t x rest → TakesArchs t x rest
+archs-by : (t : List ℕ) (x : List Term) (rest : List ℕ) → IsPart arch_terms_of [] 91 93 t x rest → TakesArchs t x rest
 archs-by t x rest (inl two) = subst (λ (y : List Term). TakesArchs t y rest) (sym two.0) two.1
 archs-by t x rest (inr found) = archs-in t found.0 rest found.1.0 x (archs_of-sound found.0 x found.1.1)
 
 pub archs-sound : (t : List ℕ) (p : List Term × List ℕ) → read_archs t ≡ Some p → TakesArchs t p.0 p.1
 unfolding read_archs
-archs-sound t p h = archs-by t p.0 p.1 (part-by archs_of [] 91 93 t (between 91 93 t) refl p h)
+archs-sound t p h = archs-by t p.0 p.1 (part-by arch_terms_of [] 91 93 t (between 91 93 t) refl p h)
 
 -- a piece before a closing angle bracket that was read
 pub record IsProfile (piece : List ℕ) (terms : List Term) : Type 0 where

@@ -127,12 +127,12 @@ abbrev pub alike_only : Option (List Term) → Option (List Term)
 alike_only = option_and_then (λ terms. if are_alike terms then Some terms else None)
 
 -- architecture words of one sign (Policy 7.1)
-unfoldable pub archs_of : List ℕ → Option (List Term)
-archs_of inside = alike_only (terms_of Arch inside)
+unfoldable pub arch_terms_of : List ℕ → Option (List Term)
+arch_terms_of inside = alike_only (terms_of Arch inside)
 
 -- architecture words in brackets, if these stand first, and what is left (Policy 7.1)
 unfoldable pub read_archs : List ℕ → Option (List Term × List ℕ)
-read_archs text = read_between archs_of [] text (between (code "[") (code "]") text)
+read_archs text = read_between arch_terms_of [] text (between (code "[") (code "]") text)
 
 -- a list of build profiles, from the text after its opening bracket, if that bracket is there (deb-src-control(5))
 abbrev pub profile_behind : Option (List ℕ) → Option (List Term)

@@ -5,7 +5,7 @@ ghost use Rattle.std.specs.Option.{option_map};
 ghost use Rattle.std.specs.List.{list_all, slice_split};
 ghost use Rattle.deb_version.specs.Syntax.{fault_of, is_version_text};
 ghost use Rattle.deb_relations.specs.Grammar.{is_blank_text, is_word, op_of, words, are_alike, is_not_blank, is_right_angle, Reads, relations_limit};
-ghost use Rattle.deb_relations.specs.Reader.{between, read_name, read_qualifier, restriction_of, read_restriction, signed, term_of, terms_of, with_group, archs_of, read_archs, profile_of, read_profiles, read_alternative, read_group, read_groups};
+ghost use Rattle.deb_relations.specs.Reader.{between, read_name, read_qualifier, restriction_of, read_restriction, signed, term_of, terms_of, with_group, arch_terms_of, read_archs, profile_of, read_profiles, read_alternative, read_group, read_groups};
 ghost use Rattle.deb_text.specs.Options.{all_some};
 ghost use Rattle.deb_relations.specs.Scanner.{halves_of};
 ghost use Rattle.deb_relations.specs.Faults.{fault_from_version};
@@ -265,10 +265,10 @@ fn are_alike(terms: &[Term]) -> bool
     }
 }
 
-#[tactic(auto, unfolding(crate::specs::Reader::archs_of, crate::specs::Reading::words_fault))]
-fn archs_of(alloc: Global, inside: &str) -> Result<Items<Term>, RelationFault>
-    ensures ok { IfOk result (λ terms. archs_of inside.now ≡ Some terms) }
-    ensures none { IfErr result (λ fault. fault ≢ Memory → archs_of inside.now ≡ None) }
+#[tactic(auto, unfolding(crate::specs::Reader::arch_terms_of, crate::specs::Reading::words_fault))]
+fn arch_terms_of(alloc: Global, inside: &str) -> Result<Items<Term>, RelationFault>
+    ensures ok { IfOk result (λ terms. arch_terms_of inside.now ≡ Some terms) }
+    ensures none { IfErr result (λ fault. fault ≢ Memory → arch_terms_of inside.now ≡ None) }
     ensures refused { IfErr result (λ fault. fault ≢ Memory → fault ≡ words_fault inside.now) }
     ensures memory { IfErr result (λ fault. fault ≡ Memory
         → begins_with_term Arch inside.now ≡ true) }
@@ -291,7 +291,7 @@ fn read_archs(alloc: Global, text: &str) -> Result<(Items<Term>, &str), Relation
     let Some((inside, rest)) = between('[', ']', text)? else {
         return Ok((Items::new(alloc), text));
     };
-    Ok((archs_of(alloc, inside)?, rest))
+    Ok((arch_terms_of(alloc, inside)?, rest))
 }
 
 // A list of build profiles, whose closing bracket is cut off.

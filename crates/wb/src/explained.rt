@@ -64,6 +64,8 @@ impl<'a, O: CarryOut> CarryOut for Explained<'a, O> {
 
     ghost leaves = { λ explained before after fault. O.CarryOut.leaves explained.office.now before after fault };
 
+    ghost cannot_go_on = { λ explained. O.CarryOut.cannot_go_on explained.office.now };
+
     fn accepted_count(&self) -> u64 {
         self.office.accepted_count()
     }

@@ -3,7 +3,7 @@ use Rattle.std.proofs.Common.{◌≡◌, ◌∙◌, refl, sym, ap, Bool, true, f
 use Rattle.std.specs.Prelude.{codes, is_some, option_and_then}
 use Rattle.std.proofs.Math.Bool.{and-true}
 use Rattle.serde_json.specs.Data.{Data}
-use Rattle.wb_api.specs.Commands.{Named, command_in, attempted_in, build_priority_in, dep_wait_in, fail_in, give_back_in, integer_in, next_in, not_for_us_in, number_in, number_or_none_in, rebuild_in, report_in, subject_in, take_in, text_in, waits_in}
+use Rattle.wb_api.specs.Commands.{Named, command_in, attempted_in, build_priority_in, dep_wait_in, fail_in, give_back_in, integer_in, next_in, not_for_us_in, number_in, number_or_none_in, rebuild_in, report_in, named_source_in, take_in, text_in, waits_in}
 use Rattle.wb_api.specs.Keys.{has_keys, keys_of}
 use Rattle.wb_api.specs.declared.route.CommandKind.{CommandKind}
 use Rattle.wb_api.specs.declared.route.CommandKind.TheVariants.{Next, Take, Built, Uploaded, Waits, PutBack, Attempted, GiveBack, DepWait, Fail, NotForUs, Rebuild, BuildPriority, Report}
@@ -30,19 +30,19 @@ and-assoc3 true true false d = refl
 and-assoc3 true true true d = refl
 
 -- a source package on an architecture and its version
-is_some-subject : (body : Data) → is_some (subject_in body)
+is_some-subject : (body : Data) → is_some (named_source_in body)
     ≡ is_some (text_in (codes "arch") body) && (is_some (text_in (codes "source") body) && is_some (text_in (codes "version") body))
-unfolding subject_in
+unfolding named_source_in
 is_some-subject body =
     is_some-then _ _ (text_in (codes "arch") body) (λ arch.
     is_some-then _ _ (text_in (codes "source") body) (λ source. is_some-map _ (text_in (codes "version") body)))
 
 -- the keys of a source package come first, and others follow
 after-subject : {Y : Type 0} (body : Data) (f : Named → Option Y) (rest : Bool) → ((subject : Named) → is_some (f subject) ≡ rest)
-    → is_some (option_and_then f (subject_in body))
+    → is_some (option_and_then f (named_source_in body))
     ≡ is_some (text_in (codes "arch") body) && (is_some (text_in (codes "source") body) && (is_some (text_in (codes "version") body) && rest))
 after-subject body f rest follows =
-    is_some-then f rest (subject_in body) follows
+    is_some-then f rest (named_source_in body) follows
     ∙ ap (λ (named : Bool). named && rest) (is_some-subject body)
     ∙ and-assoc3 (is_some (text_in (codes "arch") body)) (is_some (text_in (codes "source") body)) (is_some (text_in (codes "version") body)) rest
 
@@ -67,7 +67,7 @@ attempted body = is_some-then _ _ (number_in (codes "take") body) (λ take_numbe
 give_back : (body : Data) → is_some (give_back_in body) ≡ has_keys (keys_of GiveBack) body
 unfolding give_back_in
 give_back body =
-    is_some-map _ (subject_in body) ∙ is_some-subject body
+    is_some-map _ (named_source_in body) ∙ is_some-subject body
     ∙ ap (λ (b : Bool). is_some (text_in (codes "arch") body) && (is_some (text_in (codes "source") body) && b)) (sym (and-true (is_some (text_in (codes "version") body))))
 
 dep_wait : (body : Data) → is_some (dep_wait_in body) ≡ has_keys (keys_of DepWait) body

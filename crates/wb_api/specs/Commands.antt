@@ -6,7 +6,7 @@ use Rattle.serde_json.specs.Find.{as_i64, as_null, as_number, as_str, as_u64, ge
 use Rattle.serde_json.specs.Read.{read}
 use Rattle.wb_states.specs.declared.command.Command.{Command}
 use Rattle.wb_states.specs.Forms as form
-use Rattle.wb_api.specs.declared.command.Subject.{Subject}
+use Rattle.wb_api.specs.declared.command.NamedSource.{NamedSource}
 use Rattle.wb_streams.specs.declared.fault.Fault.{Fault}
 use Rattle.wb_streams.specs.declared.fault.Fault.TheVariants.{BadBody}
 use Rattle.wb_api.specs.declared.route.CommandKind.{CommandKind}
@@ -52,12 +52,12 @@ pub record Named : Type 0 where
   pub version : List ℕ
 
 -- what stands in a body, as texts
-abbrev pub subject_of : Subject → Named
-subject_of subject = record { arch = subject.arch.now; source = subject.source.now; version = subject.version.now }
+abbrev pub named_source_of : NamedSource → Named
+named_source_of subject = record { arch = subject.arch.now; source = subject.source.now; version = subject.version.now }
 
 -- the architecture, the source package and the version that a body names
-unfoldable pub subject_in : Data → Option Named
-subject_in body = option_and_then (λ arch. option_and_then (λ source. option_map (λ version.
+unfoldable pub named_source_in : Data → Option Named
+named_source_in body = option_and_then (λ arch. option_and_then (λ source. option_map (λ version.
     record { arch = arch; source = source; version = version })
     (text_in (codes "version") body)) (text_in (codes "source") body)) (text_in (codes "arch") body)
 
@@ -71,7 +71,7 @@ next_in body = option_and_then (λ arch. option_and_then (λ builder. option_map
 unfoldable pub take_in : Data → Option Command
 take_in body = option_and_then (λ subject. option_map (λ builder.
     form.Take subject.arch builder subject.source subject.version)
-    (text_in (codes "builder") body)) (subject_in body)
+    (text_in (codes "builder") body)) (named_source_in body)
 
 -- to say what a source package that is held waits for
 unfoldable pub waits_in : Data → Option Command
@@ -85,37 +85,37 @@ attempted_in body = option_and_then (λ take_number. option_map (λ reason. form
 
 -- to put a source package back
 unfoldable pub give_back_in : Data → Option Command
-give_back_in body = option_map (λ subject. form.GiveBack subject.arch subject.source subject.version) (subject_in body)
+give_back_in body = option_map (λ subject. form.GiveBack subject.arch subject.source subject.version) (named_source_in body)
 
 -- to let a source package wait
 unfoldable pub dep_wait_in : Data → Option Command
 dep_wait_in body = option_and_then (λ subject. option_map (λ relations.
     form.DepWait subject.arch subject.source subject.version relations)
-    (text_in (codes "relations") body)) (subject_in body)
+    (text_in (codes "relations") body)) (named_source_in body)
 
 -- to say that a build failed
 unfoldable pub fail_in : Data → Option Command
 fail_in body = option_and_then (λ subject. option_map (λ note.
     form.Fail subject.arch subject.source subject.version note)
-    (text_in (codes "note") body)) (subject_in body)
+    (text_in (codes "note") body)) (named_source_in body)
 
 -- to say that a source package is not to be built
 unfoldable pub not_for_us_in : Data → Option Command
 not_for_us_in body = option_and_then (λ subject. option_map (λ note.
     form.NotForUs subject.arch subject.source subject.version note)
-    (text_in (codes "note") body)) (subject_in body)
+    (text_in (codes "note") body)) (named_source_in body)
 
 -- to build once more
 unfoldable pub rebuild_in : Data → Option Command
 rebuild_in body = option_and_then (λ subject. option_and_then (λ number. option_map (λ message.
     form.Rebuild subject.arch subject.source subject.version number message)
-    (text_in (codes "message") body)) (number_in (codes "number") body)) (subject_in body)
+    (text_in (codes "message") body)) (number_in (codes "number") body)) (named_source_in body)
 
 -- to give a source package another build priority
 unfoldable pub build_priority_in : Data → Option Command
 build_priority_in body = option_and_then (λ subject. option_map (λ value.
     form.BuildPriority subject.arch subject.source subject.version value)
-    (integer_in (codes "value") body)) (subject_in body)
+    (integer_in (codes "value") body)) (named_source_in body)
 
 -- to report which source packages have what they need to be built
 unfoldable pub report_in : Data → Option Command

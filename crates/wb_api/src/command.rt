@@ -4,8 +4,8 @@ ghost use Rattle.std.specs.Prelude.{◌≡◌, codes, Err, IfOk, IfSome, IsSome,
 ghost use Rattle.serde_json.specs.View.{view};
 ghost use Rattle.wb_api.specs.Commands.{attempted_in, build_priority_in, command_in, command_of, dep_wait_in, fail_in};
 ghost use Rattle.wb_api.specs.Commands.{give_back_in, integer_in, json_of, next_in, not_for_us_in, number_in, or_bad_body};
-ghost use Rattle.wb_api.specs.Commands.{number_or_none_in, rebuild_in, report_in, subject_in, take_in, text_in, waits_in};
-ghost use Rattle.wb_api.specs.Commands.{IsText, subject_of};
+ghost use Rattle.wb_api.specs.Commands.{number_or_none_in, rebuild_in, report_in, named_source_in, take_in, text_in, waits_in};
+ghost use Rattle.wb_api.specs.Commands.{IsText, named_source_of};
 ghost use Rattle.wb_api.specs.Outcomes.{GivesOr};
 ghost use Rattle.wb_api.specs.declared.failure.RequestError.TheVariants.{Memory};
 
@@ -20,7 +20,7 @@ use wb_streams::Fault;
 
 /// The architecture, the source package and the version that a body names, as they stand in it.
 #[derive(Clone, Copy)]
-struct Subject<'a> {
+struct NamedSource<'a> {
     arch: &'a str,
     source: &'a str,
     version: &'a str,
@@ -69,14 +69,14 @@ fn number_or_none_in(key: &str, body: &Value) -> Option<Option<u64>>
 
 /// The architecture, the source package and the version that a body names; `None` if one of them is missing. Takes no
 /// memory.
-#[tactic(auto, unfolding(crate::specs::Commands::subject_in))]
-fn subject_in(body: &Value) -> Option<Subject<'_>>
-    ensures value { option_map subject_of result ≡ subject_in (view body.now) }
+#[tactic(auto, unfolding(crate::specs::Commands::named_source_in))]
+fn named_source_in(body: &Value) -> Option<NamedSource<'_>>
+    ensures value { option_map named_source_of result ≡ named_source_in (view body.now) }
 {
     let arch = text_in("arch", body)?;
     let source = text_in("source", body)?;
     let version = text_in("version", body)?;
-    Some(Subject {
+    Some(NamedSource {
         arch,
         source,
         version,
@@ -109,7 +109,7 @@ fn take_in(alloc: Global, body: &Value) -> Result<Option<Command>, AllocError>
     ensures value { IfOk result (λ command. command ≡ take_in (view body.now)) }
     ensures memory { OnErr result (IsSome (take_in (view body.now))) }
 {
-    let Some(subject) = subject_in(body) else {
+    let Some(subject) = named_source_in(body) else {
         return Ok(None);
     };
     let Some(builder) = text_in("builder", body) else {
@@ -169,7 +169,7 @@ fn give_back_in(alloc: Global, body: &Value) -> Result<Option<Command>, AllocErr
     ensures value { IfOk result (λ command. command ≡ give_back_in (view body.now)) }
     ensures memory { OnErr result (IsSome (give_back_in (view body.now))) }
 {
-    let Some(subject) = subject_in(body) else {
+    let Some(subject) = named_source_in(body) else {
         return Ok(None);
     };
     Ok(Some(Command::GiveBack(command::GiveBack {
@@ -184,7 +184,7 @@ fn dep_wait_in(alloc: Global, body: &Value) -> Result<Option<Command>, AllocErro
     ensures value { IfOk result (λ command. command ≡ dep_wait_in (view body.now)) }
     ensures memory { OnErr result (IsSome (dep_wait_in (view body.now))) }
 {
-    let Some(subject) = subject_in(body) else {
+    let Some(subject) = named_source_in(body) else {
         return Ok(None);
     };
     let Some(relations) = text_in("relations", body) else {
@@ -203,7 +203,7 @@ fn fail_in(alloc: Global, body: &Value) -> Result<Option<Command>, AllocError>
     ensures value { IfOk result (λ command. command ≡ fail_in (view body.now)) }
     ensures memory { OnErr result (IsSome (fail_in (view body.now))) }
 {
-    let Some(subject) = subject_in(body) else {
+    let Some(subject) = named_source_in(body) else {
         return Ok(None);
     };
     let Some(note) = text_in("note", body) else {
@@ -222,7 +222,7 @@ fn not_for_us_in(alloc: Global, body: &Value) -> Result<Option<Command>, AllocEr
     ensures value { IfOk result (λ command. command ≡ not_for_us_in (view body.now)) }
     ensures memory { OnErr result (IsSome (not_for_us_in (view body.now))) }
 {
-    let Some(subject) = subject_in(body) else {
+    let Some(subject) = named_source_in(body) else {
         return Ok(None);
     };
     let Some(note) = text_in("note", body) else {
@@ -241,7 +241,7 @@ fn rebuild_in(alloc: Global, body: &Value) -> Result<Option<Command>, AllocError
     ensures value { IfOk result (λ command. command ≡ rebuild_in (view body.now)) }
     ensures memory { OnErr result (IsSome (rebuild_in (view body.now))) }
 {
-    let Some(subject) = subject_in(body) else {
+    let Some(subject) = named_source_in(body) else {
         return Ok(None);
     };
     let Some(number) = number_in("number", body) else {
@@ -264,7 +264,7 @@ fn build_priority_in(alloc: Global, body: &Value) -> Result<Option<Command>, All
     ensures value { IfOk result (λ command. command ≡ build_priority_in (view body.now)) }
     ensures memory { OnErr result (IsSome (build_priority_in (view body.now))) }
 {
-    let Some(subject) = subject_in(body) else {
+    let Some(subject) = named_source_in(body) else {
         return Ok(None);
     };
     let Some(value) = integer_in("value", body) else {

@@ -28,7 +28,7 @@ use Rattle.wb_step.specs.Parts.{end_with, listing_for, part_listing, part_replie
 use Rattle.wb_archive.specs.declared.fault.BadList.{BadList}
 use Rattle.wb_archive.specs.declared.merge.PartList.{PartList}
 use Rattle.wb_archive.specs.Faults.{refusal_of}
-use Rattle.wb_archive.specs.Merges.{ArePartsDone, BreaksFor, IsGiven, IsGivenBy, IsMergeOfParts, IsPartMerged, IsPartOf, IsPartUnread, IsSourcesRead, IsUnread, MayBeginAt, arch_of, archs_of}
+use Rattle.wb_archive.specs.Merges.{ArePartsDone, BreaksFor, IsGiven, IsGivenBy, IsMergeOfParts, IsPartMerged, IsPartOf, IsPartUnread, IsSourcesRead, IsUnread, MayBeginAt, arch_of, archs_of_parts}
 use Rattle.wb_archive.specs.Parts.{IsListing, IsPartDone, binaries_at, listing_from}
 use Rattle.wb_archive.specs.Fills.{IsFilled, WithRows, sources_wanted}
 use Rattle.wb_archive.specs.Reads.{IsBrokenOff, IsRefused, sources_at}
@@ -229,11 +229,11 @@ known-here name (Some other) words e = inl (ap (with_words name) (same other wor
   same : (other words : OsCpu) → Some other ≡ Some words → words ≡ other
   same other words e = cc
 
-pub known-all : {R : Type 0} (parts : List (PartList R)) → AreAllKnown (archs_of parts) parts
+pub known-all : {R : Type 0} (parts : List (PartList R)) → AreAllKnown (archs_of_parts parts) parts
 known-all [] = tt
 known-all (part ∷ parts) = (
-  λ words e. in-left (with_words part.arch words) (arch_of part.arch part.words) (archs_of parts) (known-here part.arch part.words words e),
-  known-more (arch_of part.arch part.words) (archs_of parts) parts (known-all parts),
+  λ words e. in-left (with_words part.arch words) (arch_of part.arch part.words) (archs_of_parts parts) (known-here part.arch part.words words e),
+  known-more (arch_of part.arch part.words) (archs_of_parts parts) parts (known-all parts),
 )
 
 -- ---- Sources

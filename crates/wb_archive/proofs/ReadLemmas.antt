@@ -18,7 +18,7 @@ use Rattle.wb_states.specs.declared.refusal.ListingFault.TheVariants.{Control}
 use Rattle.wb_states.specs.declared.scratch.SourceRow.{SourceRow}
 use Rattle.wb_states.specs.declared.scratch.BinaryRow.{BinaryRow}
 use Rattle.wb_merge.specs.Listing.{is_installable_on}
-use Rattle.wb_merge.specs.Rows.{BinaryRow as PackageRow, binary_row_of, source_fault, onto_rows}
+use Rattle.wb_merge.specs.Rows.{BinaryParagraph, binary_row_of, source_fault, onto_rows}
 use Rattle.wb_merge.specs.Scratch.{binary_columns, binary_row_at, kept_behind, kept_of, kept_reading, source_columns, source_row_at}
 use Rattle.wb_archive.specs.declared.fault.BadList.{BadList}
 use Rattle.wb_archive.specs.declared.fault.ReadFault.{ReadFault}
@@ -61,7 +61,7 @@ source-seq at fields row = go (source_fault fields) where
   go None e = sym (ap (λ (r : SourceRow). r.seq) (only-ok (source_columns at fields) row e))
   go (Some fault) e = absurd cc
 
-kept-seq : (arch : ArchWords) (at : ℕ) (row : PackageRow) → IfSome (kept_of arch at row) (λ kept. kept.seq ≡ at)
+kept-seq : (arch : ArchWords) (at : ℕ) (row : BinaryParagraph) → IfSome (kept_of arch at row) (λ kept. kept.seq ≡ at)
 unfolding kept_of
 kept-seq arch at row =
     elim (is_installable_on arch row) as (λ b. IfSome (cond b (Some (binary_columns arch at row)) None) (λ (kept : BinaryRow). kept.seq ≡ at)) [ true ↦ refl | false ↦ tt ]
@@ -71,7 +71,7 @@ pub binary-seq : (arch : ArchWords) (at : ℕ) (fields : List FieldText) (row : 
     → IfSome row (λ kept. kept.seq ≡ at)
 unfolding binary_row_at
 binary-seq arch at fields row = go (binary_row_of fields) where
-  go : (read : Result PackageRow ListingFault) → result_map_both (kept_of arch at) (BadListing Packages at) read ≡ Ok row → IfSome row (λ kept. kept.seq ≡ at)
+  go : (read : Result BinaryParagraph ListingFault) → result_map_both (kept_of arch at) (BadListing Packages at) read ≡ Ok row → IfSome row (λ kept. kept.seq ≡ at)
   go (Ok read) e = subst (λ (r : Option BinaryRow). IfSome r (λ kept. kept.seq ≡ at)) (only-ok (kept_of arch at read) row e) (kept-seq arch at read)
   go (Err fault) e = absurd cc
 

@@ -57,9 +57,9 @@ arch_of name None = []
 arch_of name (Some words) = with_words name words ∷ []
 
 -- the architectures of parts, of those that were added
-abbrev pub archs_of : {R : Type 0} → List (PartList R) → List ArchWords
-archs_of [] = []
-archs_of (part ∷ parts) = arch_of part.arch part.words ++ archs_of parts
+abbrev pub archs_of_parts : {R : Type 0} → List (PartList R) → List ArchWords
+archs_of_parts [] = []
+archs_of_parts (part ∷ parts) = arch_of part.arch part.words ++ archs_of_parts parts
 
 -- ---- what became of them
 

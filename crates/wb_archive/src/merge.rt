@@ -5,7 +5,7 @@ ghost use Rattle.deb_relations.specs.declared.arch.ArchWords.{ArchWords};
 ghost use Rattle.wb_states.specs.Machine.{Machine};
 ghost use Rattle.wb_states.specs.declared.reply.PartEnd.TheVariants.{Refused};
 ghost use Rattle.wb_archive.specs.Faults.{Advances, StopsAs, refusal_of};
-ghost use Rattle.wb_archive.specs.Merges.{BreaksFor, IsGiven, IsMergeOfLists, IsMergeOfParts, IsPartMerged, IsPartUnread, IsUnread, arch_of, archs_of};
+ghost use Rattle.wb_archive.specs.Merges.{BreaksFor, IsGiven, IsMergeOfLists, IsMergeOfParts, IsPartMerged, IsPartUnread, IsUnread, arch_of, archs_of_parts};
 ghost use Rattle.wb_archive.specs.Parts.{IsPartEnd};
 ghost use Rattle.wb_archive.specs.Sources.{AreAllKnown, AreKnown, HasSources};
 ghost use Rattle.wb_archive.specs.Tables.{Tables, with_binaries, with_records, with_sources};
@@ -47,11 +47,11 @@ fn add_arch(
 }
 
 /// The architectures of the parts, of those that were added to the office.
-fn archs_of<R: ReadParagraphs>(
+fn archs_of_parts<R: ReadParagraphs>(
     alloc: Global,
     parts: &[PartList<R>],
 ) -> Result<Vec<ArchWords>, AllocError>
-    ensures value { IfOk result (λ archs. archs.items ≡ archs_of parts.now) }
+    ensures value { IfOk result (λ archs. archs.items ≡ archs_of_parts parts.now) }
 {
     let mut archs = Vec::new(alloc);
     for part in parts {
@@ -192,7 +192,7 @@ pub fn merge_lists<T: MergeTables, R: ReadParagraphs>(
     ensures kinds { IfOk result (λ replies. AllByRecursion (λ reply. IsPartEnd reply.end) replies.items) }
     ensures calls { Advances T.follows (StopsAs T.follows T.fails) tables.old tables.new result }
 {
-    let archs = archs_of(alloc, &parts)?;
+    let archs = archs_of_parts(alloc, &parts)?;
     let bad = fill_sources(alloc, tables, &archs, sources)?;
     let replies = merge_parts(alloc, tables, bad, parts)?;
     clear_all(tables)?;

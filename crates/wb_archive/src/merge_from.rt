@@ -73,10 +73,10 @@ pub trait MergeFrom: CarryOut {
     /// `RepeatedArch` if two are the same. Sources is read once, before the others. A part whose architecture was never
     /// added is refused with `UnknownArch`, and its list is not read. A list of which a read fails, an interrupted one too,
     /// or that has more than 2147483648 bytes is refused with `BadListing` and the fault `Read`, unless a paragraph before
-    /// that is at fault; a refused Sources list refuses each other part, with the same fault. `Memory` comes if there is no memory for a part or a paragraph, the office
-    /// is then as it was, but may be closed. `Store` comes if the store failed: the office is closed, and a crash leaves
-    /// the state before the merge or the one after it, whole. A closed office, and no other, answers `Closed`
-    /// (this project's own).
+    /// that is at fault; a refused Sources list refuses each other part, with the same fault. `Memory` comes if there is
+    /// no memory for a part or a paragraph; the office is then as it was, and is closed only if its store cannot be used on.
+    /// `Store` comes if the store failed: the office is closed, and a crash leaves the state before the merge or the one
+    /// after it, whole. A closed office, and no other, answers `Closed` (this project's own).
     fn merge_from<R: BufRead + Drop>(
         &mut self,
         sources: R,
@@ -99,6 +99,8 @@ pub trait MergeFrom: CarryOut {
             × Self.stands_at self.new machine) }
         ensures memory { (machine : Machine) → Self.is_clean self.new → Self.stands_at self.old machine
             → result ≡ Err Memory → Self.stands_at self.new machine }
+        ensures cause { (machine : Machine) → Self.is_clean self.new → Self.stands_at self.old machine
+            → ¬ Self.is_closed self.old → result ≡ Err Memory → Self.is_closed self.new → Self.cannot_go_on self.new }
         ensures closed { (machine : Machine) → Self.is_clean self.new → Self.stands_at self.old machine
             → result ≡ Err Closed → Self.is_closed self.new × Self.stands_at self.new machine }
         ensures store { (machine : Machine) → Self.is_clean self.new → Self.stands_at self.old machine

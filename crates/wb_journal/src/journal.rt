@@ -69,6 +69,8 @@ impl<'a, O: CarryOut, J: Journal + Drop> CarryOut for Journaled<'a, O, J> {
 
     ghost leaves = { λ journaled before after fault. O.CarryOut.leaves journaled.office.now before after fault };
 
+    ghost cannot_go_on = { λ journaled. O.CarryOut.cannot_go_on journaled.office.now };
+
     fn accepted_count(&self) -> u64 {
         self.office.accepted_count()
     }
@@ -102,6 +104,10 @@ impl<'a, O: CarryOut, J: Journal + Drop> CarryOut for Journaled<'a, O, J> {
             → O.CarryOut.stands_at self.old.office.now machine
             → result ≡ Err Memory
             → MayWantMemory command.now × O.CarryOut.stands_at self.new.office.now machine }
+        ensures cause { (machine : Machine) → O.CarryOut.is_clean self.new.office.now
+            → O.CarryOut.stands_at self.old.office.now machine → ¬ O.CarryOut.is_closed self.old.office.now
+            → result ≡ Err Memory → O.CarryOut.is_closed self.new.office.now
+            → O.CarryOut.cannot_go_on self.new.office.now }
         ensures closed { (machine : Machine) → O.CarryOut.is_clean self.new.office.now
             → O.CarryOut.stands_at self.old.office.now machine
             → result ≡ Err Closed
@@ -159,6 +165,10 @@ impl<'a, O: MergeFrom, J: Journal + Drop> MergeFrom for Journaled<'a, O, J> {
         ensures memory { (machine : Machine) → O.CarryOut.is_clean self.new.office.now
             → O.CarryOut.stands_at self.old.office.now machine
             → result ≡ Err Memory → O.CarryOut.stands_at self.new.office.now machine }
+        ensures cause { (machine : Machine) → O.CarryOut.is_clean self.new.office.now
+            → O.CarryOut.stands_at self.old.office.now machine → ¬ O.CarryOut.is_closed self.old.office.now
+            → result ≡ Err Memory → O.CarryOut.is_closed self.new.office.now
+            → O.CarryOut.cannot_go_on self.new.office.now }
         ensures closed { (machine : Machine) → O.CarryOut.is_clean self.new.office.now
             → O.CarryOut.stands_at self.old.office.now machine
             → result ≡ Err Closed

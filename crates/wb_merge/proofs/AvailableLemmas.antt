@@ -7,7 +7,7 @@ use Rattle.deb_relations.specs.declared.arch.ArchWords.{ArchWords}
 use Rattle.deb_text.specs.Text.{text_cmp}
 use Rattle.deb_relations.specs.Satisfaction.{Pairs, no_pairs, versions_of, with_pair}
 use Rattle.deb_text.proofs.KeyLemmas.{text_cmp_total}
-use Rattle.wb_merge.specs.Rows.{BinaryRow}
+use Rattle.wb_merge.specs.Rows.{BinaryParagraph}
 use Rattle.wb_merge.specs.Listing.{available_of, installable_versions, is_installable_on}
 use Rattle.wb_merge.proofs.NameLemmas.{bytes_eq-is}
 
@@ -48,8 +48,8 @@ pub none-yet : (name : List ℕ) → versions_of no_pairs name ≡ []
 unfolding versions_of
 none-yet name = ap (λ (o : Option (List (List ℕ))). unwrap_or o []) (finite.get-empty text_cmp name)
 
-pub versions_of-available_of : (arch : ArchWords) (rows : List BinaryRow) (name : List ℕ) → versions_of (available_of arch rows) name ≡ installable_versions arch rows name
+pub versions_of-available_of : (arch : ArchWords) (rows : List BinaryParagraph) (name : List ℕ) → versions_of (available_of arch rows) name ≡ installable_versions arch rows name
 unfolding available_of
 versions_of-available_of arch rows name =
-    more-of (λ (row : BinaryRow). row.name) (λ row. row.version) no_pairs name (filter (is_installable_on arch) rows)
+    more-of (λ (row : BinaryParagraph). row.name) (λ row. row.version) no_pairs name (filter (is_installable_on arch) rows)
     ∙ ap (λ (xs : List (List ℕ)). xs ++ installable_versions arch rows name) (none-yet name)

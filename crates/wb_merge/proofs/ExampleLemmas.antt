@@ -3,7 +3,7 @@ use Rattle.std.proofs.Common.{◌≡◌, ℕ, Bool, true, false, if◌then◌els
 use Rattle.std.specs.List.{list_any}
 use Rattle.deb_relations.specs.Grammar.{is_not_blank, is_white, is_profile_char, is_op_char, is_qualifier, is_word, op_of, words}
 use Rattle.deb_relations.specs.Names.{is_lower_or_digit, is_package_char, is_arch_char, is_arch_word, is_package_name}
-use Rattle.deb_relations.specs.Reader.{is_solid, between, read_name, read_qualifier, restriction_of, read_restriction, term_of, terms_of, archs_of, read_archs, profile_of, read_profiles, read_alternative, read_group, read_groups, with_group}
+use Rattle.deb_relations.specs.Reader.{is_solid, between, read_name, read_qualifier, restriction_of, read_restriction, term_of, terms_of, arch_terms_of, read_archs, profile_of, read_profiles, read_alternative, read_group, read_groups, with_group}
 use Rattle.deb_relations.specs.Reading.{name_fault, fault_behind_operator, asked_fault, restriction_fault, words_fault, archs_fault, list_fault, profiles_fault, alternative_fault, is_alternative, group_fault, is_group_or_blank, groups_fault, reading_of}
 use Rattle.deb_version.specs.Syntax.{has_epoch, epoch_text, rest_of, has_revision, upstream_text, revision_text, epoch_of, value_of, with_digit, parts_of, is_version_text, fault_of, length_fault, epoch_fault, rest_fault, upstream_fault, upstream_part_fault, is_upstream_char, is_revision_char, revision_fault, revision_part_fault, number_fault}
 use Rattle.deb_version.specs.Operator.{meets}
@@ -39,5 +39,5 @@ after-waits (Some listed) current is_met = Some (relisted (if is_met then NeedsB
 -- whether these waits are met is whether one of the versions that are available is at least 3
 pub libssl-waits : (available : Pairs) (versions : List (List ℕ)) → versions_of available (codes "libssl-dev") ≡ versions
     → are_waits_met available (codes "libssl-dev (>= 3)") ≡ ((list_any (meets_restriction (Some (record { op = LaterOrEqual; version = codes "3" }))) versions || false) && true)
-unfolding are_waits_met is_not_blank is_white is_profile_char is_op_char is_qualifier is_word op_of words is_lower_or_digit is_package_char is_arch_char is_arch_word is_package_name is_solid between read_name read_qualifier restriction_of read_restriction term_of terms_of archs_of read_archs profile_of read_profiles read_alternative read_group read_groups with_group name_fault fault_behind_operator asked_fault restriction_fault words_fault archs_fault list_fault profiles_fault alternative_fault is_alternative group_fault is_group_or_blank groups_fault reading_of is_alternative_met is_group_met satisfied has_epoch epoch_text rest_of has_revision upstream_text revision_text epoch_of value_of with_digit parts_of weight_of part_cmp revision_or_zero parts_cmp version_cmp meets is_version_text fault_of length_fault epoch_fault rest_fault upstream_fault upstream_part_fault is_upstream_char is_revision_char revision_fault revision_part_fault number_fault
+unfolding are_waits_met is_not_blank is_white is_profile_char is_op_char is_qualifier is_word op_of words is_lower_or_digit is_package_char is_arch_char is_arch_word is_package_name is_solid between read_name read_qualifier restriction_of read_restriction term_of terms_of arch_terms_of read_archs profile_of read_profiles read_alternative read_group read_groups with_group name_fault fault_behind_operator asked_fault restriction_fault words_fault archs_fault list_fault profiles_fault alternative_fault is_alternative group_fault is_group_or_blank groups_fault reading_of is_alternative_met is_group_met satisfied has_epoch epoch_text rest_of has_revision upstream_text revision_text epoch_of value_of with_digit parts_of weight_of part_cmp revision_or_zero parts_cmp version_cmp meets is_version_text fault_of length_fault epoch_fault rest_fault upstream_fault upstream_part_fault is_upstream_char is_revision_char revision_fault revision_part_fault number_fault
 libssl-waits available versions = ap (λ versions. (list_any (meets_restriction (Some (record { op = LaterOrEqual; version = codes "3" }))) versions || false) && true)

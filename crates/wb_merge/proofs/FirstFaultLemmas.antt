@@ -7,7 +7,7 @@ use Rattle.wb_states.specs.declared.refusal.Refusal.TheVariants.{BadListing}
 use Rattle.wb_states.specs.declared.refusal.ListKind.{ListKind}
 use Rattle.wb_states.specs.declared.refusal.ListKind.TheVariants.{Sources, Packages}
 use Rattle.wb_states.specs.declared.refusal.ListingFault.{ListingFault}
-use Rattle.wb_merge.specs.Rows.{SourceRow, BinaryRow, onto_rows, refused_at, rows_behind, source_paragraph, binary_paragraph, source_rows, binary_rows, AreRows, IsFirstFault}
+use Rattle.wb_merge.specs.Rows.{SourceParagraph, BinaryParagraph, onto_rows, refused_at, rows_behind, source_paragraph, binary_paragraph, source_rows, binary_rows, AreRows, IsFirstFault}
 
 module _ {X : Type 0} (row_of : List (List ℕ) → Result X ListingFault) (which : ListKind) where
   -- ---- rows
@@ -145,7 +145,7 @@ module _ {X : Type 0} (row_of : List (List ℕ) → Result X ListingFault) (whic
 
 -- ---- the two lists
 
-pub source_rows-rows : (text : List ℕ) (rows : List SourceRow) → (source_rows text ≡ Ok rows) ↔ AreRows source_paragraph (paragraphs_in (lines_of text)) rows
+pub source_rows-rows : (text : List ℕ) (rows : List SourceParagraph) → (source_rows text ≡ Ok rows) ↔ AreRows source_paragraph (paragraphs_in (lines_of text)) rows
 unfolding source_rows
 source_rows-rows text rows = rows_behind-rows source_paragraph Sources (paragraphs_in (lines_of text)) rows
 
@@ -153,7 +153,7 @@ pub source_rows-first : (text : List ℕ) (refusal : Refusal) → (source_rows t
 unfolding source_rows
 source_rows-first text refusal = rows_behind-first source_paragraph Sources (paragraphs_in (lines_of text)) refusal
 
-pub binary_rows-rows : (text : List ℕ) (rows : List BinaryRow) → (binary_rows text ≡ Ok rows) ↔ AreRows binary_paragraph (paragraphs_in (lines_of text)) rows
+pub binary_rows-rows : (text : List ℕ) (rows : List BinaryParagraph) → (binary_rows text ≡ Ok rows) ↔ AreRows binary_paragraph (paragraphs_in (lines_of text)) rows
 unfolding binary_rows
 binary_rows-rows text rows = rows_behind-rows binary_paragraph Packages (paragraphs_in (lines_of text)) rows
 

@@ -27,7 +27,7 @@ use Rattle.wb_states.specs.Names.{is_label_text}
 use Rattle.deb_text.proofs.KeyLemmas.{text_cmp_total, text_cmp-same}
 use Rattle.wb_merge.specs.declared.listing.Listed.{Listed}
 use Rattle.wb_merge.specs.declared.listing.Built.{Built}
-use Rattle.wb_merge.specs.Rows.{SourceRow, BinaryRow, source_rows, binary_rows}
+use Rattle.wb_merge.specs.Rows.{SourceParagraph, BinaryParagraph, source_rows, binary_rows}
 use Rattle.wb_merge.specs.Listing.{ArchiveListing, better, best_from, joined, printed_for, within_limit, both_joined, depends_of, listed_as, is_candidate, listed_cmp, candidates, listed_of, built_as, built_cmp, is_built_from, builds, built_of, map_at, listing_of_rows, listing_in, listing_of}
 use Rattle.wb_merge.proofs.ListingLemmas.{map_at-get}
 use Rattle.wb_merge.proofs.RowLemmas.{IsGoodSource, IsSmall, source_rows-good, binary_rows-small}
@@ -93,7 +93,7 @@ both-joined None second one other = tt
 both-joined (Some first) None one other = tt
 both-joined (Some first) (Some second) one other = within-limit (joined first second) (joined-utf8 first second one other)
 
-depends-well : (arch : ArchWords) (row : SourceRow) → IfSome (depends_of arch row) (IsTextWithin relations_limit)
+depends-well : (arch : ArchWords) (row : SourceParagraph) → IfSome (depends_of arch row) (IsTextWithin relations_limit)
 unfolding depends_of
 depends-well arch row = both-joined (printed_for arch row.depends) (printed_for arch row.depends_arch) (printed-for arch row.depends) (printed-for arch row.depends_arch)
 
@@ -133,7 +133,7 @@ map_at-has {X} f keys Q has key =
 
 -- ---- the listing
 
-candidate-good : (arch : ArchWords) (name : List ℕ) (row : SourceRow) → IsGoodSource row → is_candidate arch name row ≡ true → IsGoodListed name (listed_as arch row)
+candidate-good : (arch : ArchWords) (name : List ℕ) (row : SourceParagraph) → IsGoodSource row → is_candidate arch name row ≡ true → IsGoodListed name (listed_as arch row)
 unfolding is_candidate
 candidate-good arch name row good is =
     let same : name ≡ row.name = (bytes_eq-Decides name row.name).0 (and_parts (bytes_eq name row.name) _ is).0 in
@@ -145,21 +145,21 @@ candidate-good arch name row good is =
       depends = depends-well arch row;
     }
 
-listed-good : (arch : ArchWords) (rows : List SourceRow) → AllByRecursion IsGoodSource rows → (name : List ℕ) → IfSome (listed_of arch rows name) (IsGoodListed name)
+listed-good : (arch : ArchWords) (rows : List SourceParagraph) → AllByRecursion IsGoodSource rows → (name : List ℕ) → IfSome (listed_of arch rows name) (IsGoodListed name)
 unfolding listed_of candidates
 listed-good arch rows good name =
     best-has listed_cmp (IsGoodListed name) None (map (listed_as arch) (filter (is_candidate arch name) rows)) tt
     (all-kept (IsGoodListed name) (is_candidate arch name) (listed_as arch) rows
     (every IsGoodSource (λ row. is_candidate arch name row ≡ true → IsGoodListed name (listed_as arch row)) (candidate-good arch name) rows good))
 
-built-small : (arch : ArchWords) (rows : List BinaryRow) → AllByRecursion IsSmall rows → (name : List ℕ) → IfSome (built_of arch rows name) IsSmallBuilt
+built-small : (arch : ArchWords) (rows : List BinaryParagraph) → AllByRecursion IsSmall rows → (name : List ℕ) → IfSome (built_of arch rows name) IsSmallBuilt
 unfolding built_of builds
 built-small arch rows small name =
     best-has built_cmp IsSmallBuilt None (map built_as (filter (is_built_from arch name) rows)) tt
     (all-kept IsSmallBuilt (is_built_from arch name) built_as rows
     (every IsSmall (λ row. is_built_from arch name row ≡ true → IsSmallBuilt (built_as row)) (λ row small _. small) rows small))
 
-lists-good : (arch : ArchWords) (sources : List SourceRow) (packages : List BinaryRow) → AllByRecursion IsGoodSource sources → AllByRecursion IsSmall packages
+lists-good : (arch : ArchWords) (sources : List SourceParagraph) (packages : List BinaryParagraph) → AllByRecursion IsGoodSource sources → AllByRecursion IsSmall packages
     → IsGoodListing (listing_of_rows arch sources packages)
 unfolding listing_of_rows
 lists-good arch sources packages good small = record {
@@ -167,9 +167,9 @@ lists-good arch sources packages good small = record {
   built = map_at-has (built_of arch packages) (map (λ row. row.source) packages) (λ _. IsSmallBuilt) (built-small arch packages small);
 }
 
-listing_in-good : (arch : ArchWords) (sources : Result (List SourceRow) Refusal) (packages : Result (List BinaryRow) Refusal) (listing : ArchiveListing)
-    → ((rows : List SourceRow) → sources ≡ Ok rows → AllByRecursion IsGoodSource rows)
-    → ((rows : List BinaryRow) → packages ≡ Ok rows → AllByRecursion IsSmall rows)
+listing_in-good : (arch : ArchWords) (sources : Result (List SourceParagraph) Refusal) (packages : Result (List BinaryParagraph) Refusal) (listing : ArchiveListing)
+    → ((rows : List SourceParagraph) → sources ≡ Ok rows → AllByRecursion IsGoodSource rows)
+    → ((rows : List BinaryParagraph) → packages ≡ Ok rows → AllByRecursion IsSmall rows)
     → listing_in arch sources packages ≡ Ok listing → IsGoodListing listing
 listing_in-good arch (Err refusal) packages listing good small is = cc
 listing_in-good arch (Ok sources) (Err refusal) listing good small is = cc

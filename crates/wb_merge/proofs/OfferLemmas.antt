@@ -11,7 +11,7 @@ use Rattle.deb_text.proofs.KeyLemmas.{text_cmp_total}
 use Rattle.deb_text.proofs.MapLemmas.{get-lookup}
 use Rattle.wb_merge.specs.declared.listing.Listed.{Listed}
 use Rattle.wb_merge.specs.declared.listing.Built.{Built}
-use Rattle.wb_merge.specs.Rows.{SourceRow, BinaryRow}
+use Rattle.wb_merge.specs.Rows.{SourceParagraph, BinaryParagraph}
 use Rattle.wb_merge.specs.Listing.{listed_cmp, listed_as, built_cmp, built_as, is_listed, is_better}
 use Rattle.wb_merge.specs.Offers.{with_listed, with_build}
 
@@ -33,7 +33,7 @@ module _ {X : Type 0} (R : X → X → Ordering) where
       → true ≡ is_better R (finite.get (finite.from_entries {R = text_cmp} es) name) next
   better-none es name next found = ap (λ o. is_better R o next) (found ∙ sym (get-lookup text_cmp_total es name))
 
-module _ (arch : ArchWords) (m : finite.FinMap text_cmp Listed) (row : SourceRow) where
+module _ (arch : ArchWords) (m : finite.FinMap text_cmp Listed) (row : SourceParagraph) where
   pub source-other : is_listed arch row ≡ false → m ≡ with_listed arch m row
   unfolding with_listed
   source-other other = rw other refl
@@ -47,7 +47,7 @@ module _ (arch : ArchWords) (m : finite.FinMap text_cmp Listed) (row : SourceRow
   unfolding with_listed
   source-new listed later = rw (listed, later) refl
 
-module _ (arch : ArchWords) (m : finite.FinMap text_cmp Built) (row : BinaryRow) where
+module _ (arch : ArchWords) (m : finite.FinMap text_cmp Built) (row : BinaryParagraph) where
   pub build-other : bytes_eq arch.name row.arch ≡ false → m ≡ with_build arch m row
   unfolding with_build
   build-other other = rw other refl

@@ -3,7 +3,7 @@ use Rattle.std.proofs.Common.{◌≡◌, ℕ, ◌+◌, ◌≤◌, Bool, true, fa
 use Rattle.std.specs.List.{slice_split, onto_first}
 use Rattle.deb_control.specs.Paragraphs.{ReaderState, begun}
 use Rattle.wb_states.specs.declared.refusal.ListKind.TheVariants.{Sources, Packages}
-use Rattle.wb_merge.specs.Rows.{SourceRow, BinaryRow, source_paragraph, binary_paragraph, source_rows, binary_rows}
+use Rattle.wb_merge.specs.Rows.{SourceParagraph, BinaryParagraph, source_paragraph, binary_paragraph, source_rows, binary_rows}
 use Rattle.wb_merge.specs.Offers.{HasPassed, after_rows, rows_at}
 use Rattle.wb_merge.specs.Growth.{ahead_takes_memory, list_takes_memory}
 use Rattle.deb_control.specs.Lines.{is_line_feed, is_separator, is_nonempty, lines_of, paragraphs_in}
@@ -44,12 +44,12 @@ unfolding list_takes_memory
 first-takes text place is takes = ap (λ p. ahead_takes_memory p.ahead) (sym is) ∙ takes
 
 module _ {S : Type 0} where
-  pub all-sources : (add : S → SourceRow → S) (start first : S) (text : List ℕ) (place : ReaderState) → place ≡ begun (paragraphs_in (lines_of text)) → start ≡ first
+  pub all-sources : (add : S → SourceParagraph → S) (start first : S) (text : List ℕ) (place : ReaderState) → place ≡ begun (paragraphs_in (lines_of text)) → start ≡ first
       → after_rows add start (rows_at source_paragraph Sources place) ≡ after_rows add first (source_rows text)
   unfolding source_rows
   all-sources add start first text place is same = ap (λ p. after_rows add start (rows_at source_paragraph Sources p)) is ∙ ap (λ s. after_rows add s (source_rows text)) same
 
-  pub all-binaries : (add : S → BinaryRow → S) (start first : S) (text : List ℕ) (place : ReaderState) → place ≡ begun (paragraphs_in (lines_of text)) → start ≡ first
+  pub all-binaries : (add : S → BinaryParagraph → S) (start first : S) (text : List ℕ) (place : ReaderState) → place ≡ begun (paragraphs_in (lines_of text)) → start ≡ first
       → after_rows add start (rows_at binary_paragraph Packages place) ≡ after_rows add first (binary_rows text)
   unfolding binary_rows
   all-binaries add start first text place is same = ap (λ p. after_rows add start (rows_at binary_paragraph Packages p)) is ∙ ap (λ s. after_rows add s (binary_rows text)) same

@@ -20,7 +20,7 @@ use Rattle.deb_relations.specs.Names.{is_package_name}
 use Rattle.wb_states.specs.Names.{is_label_text}
 use Rattle.deb_text.specs.Text.{is_empty_text}
 use Rattle.wb_states.specs.Refusals.{name_of_field}
-use Rattle.wb_merge.specs.Rows.{SourceRow, BinaryRow, value_named, text_named, is_label_or_empty, has_source_version, last_digits, rebuild_number, required_fault, optional_fault, form_fault, spare_form_fault, source_fault, source_row, with_source, binary_row, source_row_of, binary_row_of, of_fields, refused_at, onto_rows, rows_behind, source_rows, binary_rows}
+use Rattle.wb_merge.specs.Rows.{SourceParagraph, BinaryParagraph, value_named, text_named, is_label_or_empty, has_source_version, last_digits, rebuild_number, required_fault, optional_fault, form_fault, spare_form_fault, source_fault, source_row, with_source, binary_row, source_row_of, binary_row_of, of_fields, refused_at, onto_rows, rows_behind, source_rows, binary_rows}
 use Rattle.deb_text.proofs.OptionLemmas.{first_some-None, ok_unless-Ok}
 use Rattle.deb_text.proofs.ListLemmas.{take_while-passes}
 
@@ -92,7 +92,7 @@ label-is text is = is
 
 -- ---- the rows of a Sources list
 
-pub record IsGoodSource (row : SourceRow) : Type 0 where
+pub record IsGoodSource (row : SourceParagraph) : Type 0 where
   pub name : IsTrue (is_package_name row.name)
   pub version : fault_of row.version ≡ None
   pub priority : IsTrue (is_empty_text row.priority || is_label_text row.priority)
@@ -102,7 +102,7 @@ empty-label : IsTrue (is_label_or_empty [])
 unfolding is_label_or_empty
 empty-label = refl
 
-source-good : (fields : List FieldText) (row : SourceRow) → source_row_of fields ≡ Ok row → IsGoodSource row
+source-good : (fields : List FieldText) (row : SourceParagraph) → source_row_of fields ≡ Ok row → IsGoodSource row
 unfolding source_row_of source_fault
 source-good fields row is =
     let made = ok_unless-Ok (source_fault fields) (source_row fields) row is in
@@ -121,7 +121,7 @@ source-good fields row is =
     } in
     subst IsGoodSource made.1 good
 
-pub source_rows-good : (text : List ℕ) (rows : List SourceRow) → source_rows text ≡ Ok rows → AllByRecursion IsGoodSource rows
+pub source_rows-good : (text : List ℕ) (rows : List SourceParagraph) → source_rows text ≡ Ok rows → AllByRecursion IsGoodSource rows
 unfolding source_rows
 source_rows-good text rows is = rows-good IsGoodSource source_row_of source-good _ 0 _ rows is
 
@@ -165,7 +165,7 @@ unfolding rebuild_number last_digits
 rebuild-small version = small-by (take_while is_ascii_digit (reverse version)) _ (take_while-passes is_ascii_digit (reverse version))
 
 -- the number of a row is that of a binary-only rebuild
-abbrev pub IsSmall : BinaryRow → Type 0
+abbrev pub IsSmall : BinaryParagraph → Type 0
 IsSmall row = row.number ≤ 999
 
 chosen-small : (test : Bool) (number : ℕ) → number ≤ 999 → cond test number 0 ≤ 999
@@ -176,13 +176,13 @@ source-small : (name version arch : List ℕ) (text : Option (List ℕ)) → IsS
 source-small name version arch None = omega arith
 source-small name version arch (Some text) = chosen-small (has_source_version text) (rebuild_number version) (rebuild-small version)
 
-binary-small : (fields : List FieldText) (row : BinaryRow) → binary_row_of fields ≡ Ok row → IsSmall row
+binary-small : (fields : List FieldText) (row : BinaryParagraph) → binary_row_of fields ≡ Ok row → IsSmall row
 unfolding binary_row_of
 binary-small fields row is =
     let made = ok_unless-Ok _ (binary_row fields) row is in
     subst IsSmall made.1
     (source-small (text_named (codes "Package") fields) (text_named (codes "Version") fields) (text_named (codes "Architecture") fields) (value_named (codes "Source") fields))
 
-pub binary_rows-small : (text : List ℕ) (rows : List BinaryRow) → binary_rows text ≡ Ok rows → AllByRecursion IsSmall rows
+pub binary_rows-small : (text : List ℕ) (rows : List BinaryParagraph) → binary_rows text ≡ Ok rows → AllByRecursion IsSmall rows
 unfolding binary_rows
 binary_rows-small text rows is = rows-good IsSmall binary_row_of binary-small _ 0 _ rows is

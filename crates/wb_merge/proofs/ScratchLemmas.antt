@@ -21,7 +21,7 @@ use Rattle.wb_states.specs.declared.refusal.ListKind.TheVariants.{Sources, Packa
 use Rattle.wb_states.specs.declared.refusal.ListingFault.{ListingFault}
 use Rattle.wb_states.specs.declared.scratch.SourceRow.{SourceRow as KeptSource}
 use Rattle.wb_states.specs.declared.scratch.BinaryRow.{BinaryRow as KeptBinary}
-use Rattle.wb_merge.specs.Rows.{SourceRow, BinaryRow, source_fault, source_row, source_row_of, binary_row_of, of_fields, refused_at, onto_rows, rows_behind, source_paragraph, binary_paragraph, source_rows, binary_rows}
+use Rattle.wb_merge.specs.Rows.{SourceParagraph, BinaryParagraph, source_fault, source_row, source_row_of, binary_row_of, of_fields, refused_at, onto_rows, rows_behind, source_paragraph, binary_paragraph, source_rows, binary_rows}
 use Rattle.wb_merge.specs.Listing.{ArchiveListing, best_from, better, built_as, built_cmp, built_of, builds, candidates, is_built_from, is_candidate, is_installable_on, is_listed, available_of, listed_as, listed_cmp, listed_of, listing_in, listing_of, listing_of_rows, map_at}
 use Rattle.wb_merge.specs.Scratch.{source_columns, source_row_at, binary_columns, binary_row_at, kept_of, kept_reading, kept_behind, present, kept_sources, kept_binaries, row_of_kept, listed_in, version_row_cmp, is_build_of, build_of, build_cmp, built_in, versions_in, available_in, listing_of_kept, listing_kept}
 use Rattle.wb_merge.proofs.AvailableLemmas.{more-of, none-yet}
@@ -145,7 +145,7 @@ unfolding source_rows kept_sources
 source_rows-kept text = sources-behind 0 (paragraphs_in (lines_of text))
 
 -- what is kept of rows after so many others
-abbrev kept_each : ArchWords → ℕ → List BinaryRow → List (Option KeptBinary)
+abbrev kept_each : ArchWords → ℕ → List BinaryParagraph → List (Option KeptBinary)
 kept_each arch passed [] = []
 kept_each arch passed (row ∷ rows) = kept_of arch (passed + 1) row ∷ kept_each arch (passed + 1) rows
 
@@ -156,13 +156,13 @@ unfolding binary_row_at
 one-binary arch number (Err kind) = refl
 one-binary arch number (Ok fields) = both (binary_row_of fields)
   where
-    both : (row : Result BinaryRow ListingFault)
+    both : (row : Result BinaryParagraph ListingFault)
         → result_map_both (kept_of arch number) (BadListing Packages number) row
         ≡ result_map_both (kept_of arch number) (λ refusal. refusal) (refused_at Packages number row)
     both (Ok row) = refl
     both (Err fault) = refl
 
-onto-kept : (arch : ArchWords) (passed : ℕ) (first : Result BinaryRow Refusal) (behind : Result (List BinaryRow) Refusal)
+onto-kept : (arch : ArchWords) (passed : ℕ) (first : Result BinaryParagraph Refusal) (behind : Result (List BinaryParagraph) Refusal)
     → onto_rows (result_map_both (kept_of arch (passed + 1)) (λ refusal. refusal) first) (result_map_both (kept_each arch (passed + 1)) (λ refusal. refusal) behind)
     ≡ result_map_both (kept_each arch passed) (λ refusal. refusal) (onto_rows first behind)
 onto-kept arch passed (Err refusal) behind = refl
@@ -177,7 +177,7 @@ binaries-behind arch passed (lines ∷ later) =
     ap₂ onto_rows (one-binary arch (passed + 1) (reading_of lines)) (binaries-behind arch (passed + 1) later)
     ∙ onto-kept arch passed (refused_at Packages (passed + 1) (binary_paragraph lines)) (rows_behind binary_paragraph Packages (passed + 1) later)
 
-map-twice : (arch : ArchWords) (rows : Result (List BinaryRow) Refusal)
+map-twice : (arch : ArchWords) (rows : Result (List BinaryParagraph) Refusal)
     → result_map_both present (λ refusal. refusal) (result_map_both (kept_each arch 0) (λ refusal. refusal) rows)
     ≡ result_map_both (λ rows. present (kept_each arch 0 rows)) (λ refusal. refusal) rows
 map-twice arch (Ok rows) = refl
@@ -193,12 +193,12 @@ kept_binaries-rows arch text =
 
 -- ---- the listing of what is kept
 
-own-installable : (arch : ArchWords) (row : BinaryRow) → bytes_eq arch.name row.arch ≡ true
+own-installable : (arch : ArchWords) (row : BinaryParagraph) → bytes_eq arch.name row.arch ≡ true
     → is_installable_on arch row ≡ true
 unfolding is_installable_on
 own-installable arch row e = rw (bytes_eq-turned row.arch arch.name ∙ e) refl
 
-builds-kept : (arch : ArchWords) (passed : ℕ) (rows : List BinaryRow) (name : List ℕ)
+builds-kept : (arch : ArchWords) (passed : ℕ) (rows : List BinaryParagraph) (name : List ℕ)
     → map built_as (filter (is_built_from arch name) rows)
     ≡ map build_of (filter (is_build_of name) (present (kept_each arch passed rows)))
 unfolding is_built_from kept_of
@@ -206,7 +206,7 @@ builds-kept arch passed [] name = refl
 builds-kept arch passed (row ∷ rows) name =
     go (bytes_eq name row.source) (bytes_eq arch.name row.arch) (is_installable_on arch row) refl refl (own-installable arch row) (builds-kept arch (passed + 1) rows name)
   where
-    ours : List BinaryRow
+    ours : List BinaryParagraph
     ours = filter (is_built_from arch name) rows
 
     kept : List KeptBinary
@@ -225,7 +225,7 @@ builds-kept arch passed (row ∷ rows) name =
     go false own true n o is more = rw n more
     go false own false n o is more = more
 
-available-kept : (arch : ArchWords) (passed : ℕ) (rows : List BinaryRow) (pairs : Pairs)
+available-kept : (arch : ArchWords) (passed : ℕ) (rows : List BinaryParagraph) (pairs : Pairs)
     → fold (λ pairs row. with_pair pairs row.name row.version) pairs (filter (is_installable_on arch) rows)
     ≡ fold (λ pairs row. with_pair pairs row.name row.version) pairs (present (kept_each arch passed rows))
 unfolding kept_of
@@ -246,14 +246,14 @@ pub listed-kept : (arch : ArchWords) (sources : List KeptSource) (binaries : Lis
     → finite.get (listing_of_kept arch sources binaries).listed name ≡ listed_in arch sources name
 unfolding listing_of_kept listed_in listed_of candidates is_candidate
 listed-kept arch sources binaries name =
-    ap (λ keys. finite.get (map_at {R = text_cmp} (listed_of arch (map row_of_kept sources)) keys) name) (sym (map-map (λ (row : SourceRow). row.name) row_of_kept sources))
-    ∙ map-get listed_cmp (is_listed arch) (λ (row : SourceRow). row.name) (listed_as arch) (map row_of_kept sources) name
+    ap (λ keys. finite.get (map_at {R = text_cmp} (listed_of arch (map row_of_kept sources)) keys) name) (sym (map-map (λ (row : SourceParagraph). row.name) row_of_kept sources))
+    ∙ map-get listed_cmp (is_listed arch) (λ (row : SourceParagraph). row.name) (listed_as arch) (map row_of_kept sources) name
 
-built-there : (arch : ArchWords) (rows : List BinaryRow) (name : List ℕ)
+built-there : (arch : ArchWords) (rows : List BinaryParagraph) (name : List ℕ)
     → finite.get (map_at {R = text_cmp} (built_of arch rows) (map (λ row. row.source) rows)) name
     ≡ built_of arch rows name
 unfolding built_of builds is_built_from
-built-there arch rows name = map-get built_cmp (λ (row : BinaryRow). bytes_eq arch.name row.arch) (λ row. row.source) built_as rows name
+built-there arch rows name = map-get built_cmp (λ (row : BinaryParagraph). bytes_eq arch.name row.arch) (λ row. row.source) built_as rows name
 
 built-in-there : (rows : List KeptBinary) (name : List ℕ)
     → finite.get (map_at {R = text_cmp} (built_in rows) (map (λ row. row.source) rows)) name ≡ built_in rows name
@@ -272,12 +272,12 @@ versions-kept arch sources binaries name =
     more-of (λ (row : KeptBinary). row.name) (λ row. row.version) no_pairs name binaries
     ∙ ap (λ (xs : List (List ℕ)). xs ++ map (λ (row : KeptBinary). row.version) (filter (λ row. bytes_eq name row.name) binaries)) (none-yet name)
 
-built_of-kept : (arch : ArchWords) (rows : List BinaryRow) (name : List ℕ)
+built_of-kept : (arch : ArchWords) (rows : List BinaryParagraph) (name : List ℕ)
     → built_of arch rows name ≡ built_in (present (kept_each arch 0 rows)) name
 unfolding built_of builds built_in
 built_of-kept arch rows name = ap (best_from built_cmp None) (builds-kept arch 0 rows name)
 
-rows-kept : (arch : ArchWords) (sources : List KeptSource) (rows : List BinaryRow)
+rows-kept : (arch : ArchWords) (sources : List KeptSource) (rows : List BinaryParagraph)
     → listing_of_rows arch (map row_of_kept sources) rows
     ≡ listing_of_kept arch sources (present (kept_each arch 0 rows))
 unfolding listing_of_rows listing_of_kept listed_in available_of available_in
@@ -286,11 +286,11 @@ rows-kept arch sources rows =
     ≡ map_at (built_in (present (kept_each arch 0 rows))) (map (λ row. row.source) (present (kept_each arch 0 rows))) =
     finite.same_map text_cmp_total text_cmp-same _ _ (λ name.
     built-there arch rows name ∙ built_of-kept arch rows name ∙ sym (built-in-there (present (kept_each arch 0 rows)) name)) in
-    let listed = ap (map_at {R = text_cmp} (listed_of arch (map row_of_kept sources))) (map-map (λ (row : SourceRow). row.name) row_of_kept sources) in
+    let listed = ap (map_at {R = text_cmp} (listed_of arch (map row_of_kept sources))) (map-map (λ (row : SourceParagraph). row.name) row_of_kept sources) in
     let available = available-kept arch 0 rows no_pairs in
     λ i. record { listed = listed i; built = built i; available = available i }
 
-in-kept : (arch : ArchWords) (sources : Result (List KeptSource) Refusal) (rows : Result (List BinaryRow) Refusal)
+in-kept : (arch : ArchWords) (sources : Result (List KeptSource) Refusal) (rows : Result (List BinaryParagraph) Refusal)
     → listing_in arch (result_map_both (map row_of_kept) (λ refusal. refusal) sources) rows
     ≡ listing_kept arch sources (result_map_both (λ rows. present (kept_each arch 0 rows)) (λ refusal. refusal) rows)
 in-kept arch (Err refusal) rows = refl

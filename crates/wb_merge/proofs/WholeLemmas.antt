@@ -8,43 +8,43 @@ use Rattle.deb_relations.specs.Satisfaction.{Pairs, no_pairs, with_pair}
 use Rattle.wb_states.specs.declared.refusal.Refusal.{Refusal}
 use Rattle.wb_merge.specs.declared.listing.Listed.{Listed}
 use Rattle.wb_merge.specs.declared.listing.Built.{Built}
-use Rattle.wb_merge.specs.Rows.{SourceRow, BinaryRow, source_rows, binary_rows}
+use Rattle.wb_merge.specs.Rows.{SourceParagraph, BinaryParagraph, source_rows, binary_rows}
 use Rattle.wb_merge.specs.Listing.{map_at, listed_cmp, listed_as, is_candidate, candidates, listed_of, built_cmp, built_as, is_built_from, builds, built_of, is_installable_on, available_of, listing_of_rows, best_from, listing_in, listing_of, is_listed}
 use Rattle.wb_merge.specs.Offers.{after_rows, with_listed, with_build, with_package, with_binary}
 use Rattle.wb_merge.proofs.FoldLemmas.{fold-map, map-get}
 
 -- what is listed
-sources-map : (arch : ArchWords) (rows : List SourceRow) → fold (with_listed arch) finite.empty rows ≡ map_at {R = text_cmp} (listed_of arch rows) (map (λ row. row.name) rows)
+sources-map : (arch : ArchWords) (rows : List SourceParagraph) → fold (with_listed arch) finite.empty rows ≡ map_at {R = text_cmp} (listed_of arch rows) (map (λ row. row.name) rows)
 unfolding with_listed listed_of candidates is_candidate
 sources-map arch rows = fold-map listed_cmp (is_listed arch) (λ row. row.name) (listed_as arch) rows
 
 -- what is built
-builds-map : (arch : ArchWords) (rows : List BinaryRow) → fold (with_build arch) finite.empty rows ≡ map_at {R = text_cmp} (built_of arch rows) (map (λ row. row.source) rows)
+builds-map : (arch : ArchWords) (rows : List BinaryParagraph) → fold (with_build arch) finite.empty rows ≡ map_at {R = text_cmp} (built_of arch rows) (map (λ row. row.source) rows)
 unfolding with_build built_of builds is_built_from
 builds-map arch rows = fold-map built_cmp (λ row. bytes_eq arch.name row.arch) (λ row. row.source) built_as rows
 
 -- what is available
-abbrev adds : Pairs → BinaryRow → Pairs
+abbrev adds : Pairs → BinaryParagraph → Pairs
 adds pairs row = with_pair pairs row.name row.version
 
-one-package : (b : Bool) (pairs : Pairs) (row : BinaryRow) (rows : List BinaryRow)
+one-package : (b : Bool) (pairs : Pairs) (row : BinaryParagraph) (rows : List BinaryParagraph)
     → fold adds (cond b (with_pair pairs row.name row.version) pairs) rows ≡ fold adds pairs (cond b (row ∷ rows) rows)
 one-package true pairs row rows = refl
 one-package false pairs row rows = refl
 
-packages-fold : (arch : ArchWords) (rows : List BinaryRow) (pairs : Pairs) → fold (with_package arch) pairs rows ≡ fold adds pairs (filter (is_installable_on arch) rows)
+packages-fold : (arch : ArchWords) (rows : List BinaryParagraph) (pairs : Pairs) → fold (with_package arch) pairs rows ≡ fold adds pairs (filter (is_installable_on arch) rows)
 unfolding with_package
 packages-fold arch [] pairs = refl
 packages-fold arch (row ∷ rows) pairs =
     packages-fold arch rows (with_package arch pairs row) ∙ one-package (is_installable_on arch row) pairs row (filter (is_installable_on arch) rows)
 
-both : (arch : ArchWords) (rows : List BinaryRow) (built : finite.FinMap text_cmp Built) (pairs : Pairs)
+both : (arch : ArchWords) (rows : List BinaryParagraph) (built : finite.FinMap text_cmp Built) (pairs : Pairs)
     → fold (with_binary arch) (built, pairs) rows ≡ (fold (with_build arch) built rows, fold (with_package arch) pairs rows)
 both arch [] built pairs = refl
 both arch (row ∷ rows) built pairs = both arch rows (with_build arch built row) (with_package arch pairs row)
 
 -- both of Packages
-found-is : (arch : ArchWords) (rows : List BinaryRow)
+found-is : (arch : ArchWords) (rows : List BinaryParagraph)
     → fold (with_binary arch) (finite.empty, no_pairs) rows ≡ (map_at {R = text_cmp} (built_of arch rows) (map (λ row. row.source) rows), available_of arch rows)
 unfolding available_of
 found-is arch rows =
@@ -59,7 +59,7 @@ not-ok : {S : Type 0} (r : Refusal) (s : S) → Err r ≡ Ok s → ⊥
 not-ok r s e = cc
 
 -- the listing of rows
-lists-are : (arch : ArchWords) (sources : Result (List SourceRow) Refusal) (packages : Result (List BinaryRow) Refusal)
+lists-are : (arch : ArchWords) (sources : Result (List SourceParagraph) Refusal) (packages : Result (List BinaryParagraph) Refusal)
     (listed : finite.FinMap text_cmp Listed) (built : finite.FinMap text_cmp Built) (available : Pairs)
     → after_rows (with_listed arch) finite.empty sources ≡ Ok listed
     → after_rows (with_binary arch) (finite.empty, no_pairs) packages ≡ Ok (built, available)
@@ -86,7 +86,7 @@ pub sources-refused : (arch : ArchWords) (sources packages : List ℕ) (refusal 
 unfolding listing_of
 sources-refused arch sources packages refusal s = rw s refl
 
-packages-are : (arch : ArchWords) (sources : Result (List SourceRow) Refusal) (listed : finite.FinMap text_cmp Listed) (refusal : Refusal)
+packages-are : (arch : ArchWords) (sources : Result (List SourceParagraph) Refusal) (listed : finite.FinMap text_cmp Listed) (refusal : Refusal)
     → after_rows (with_listed arch) finite.empty sources ≡ Ok listed → listing_in arch sources (Err refusal) ≡ Err refusal
 packages-are arch (Err other) listed refusal s = absurd (not-ok other listed s)
 packages-are arch (Ok rows) listed refusal s = refl
@@ -99,12 +99,12 @@ packages-refused arch sources packages listed refusal s p = rw p (packages-are a
 
 -- ---- what a listing has at a name
 
-pub listed-get : (arch : ArchWords) (sources : List SourceRow) (packages : List BinaryRow) (name : List ℕ)
+pub listed-get : (arch : ArchWords) (sources : List SourceParagraph) (packages : List BinaryParagraph) (name : List ℕ)
     → finite.get (listing_of_rows arch sources packages).listed name ≡ best_from listed_cmp None (candidates arch sources name)
 unfolding listing_of_rows listed_of candidates is_candidate
 listed-get arch sources packages name = map-get listed_cmp (is_listed arch) (λ row. row.name) (listed_as arch) sources name
 
-pub built-get : (arch : ArchWords) (sources : List SourceRow) (packages : List BinaryRow) (name : List ℕ)
+pub built-get : (arch : ArchWords) (sources : List SourceParagraph) (packages : List BinaryParagraph) (name : List ℕ)
     → finite.get (listing_of_rows arch sources packages).built name ≡ best_from built_cmp None (builds arch packages name)
 unfolding listing_of_rows built_of builds is_built_from
 built-get arch sources packages name = map-get built_cmp (λ row. bytes_eq arch.name row.arch) (λ row. row.source) built_as packages name

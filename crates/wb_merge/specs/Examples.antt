@@ -7,7 +7,7 @@ use Rattle.wb_states.specs.declared.record.Record.{Record}
 use Rattle.wb_states.specs.declared.state.State.{State}
 use Rattle.wb_merge.specs.declared.listing.Listed.{Listed}
 use Rattle.wb_merge.specs.declared.listing.Built.{Built}
-use Rattle.wb_merge.specs.Rows.{BinaryRow, SourceRow, with_source}
+use Rattle.wb_merge.specs.Rows.{BinaryParagraph, SourceParagraph, with_source}
 use Rattle.wb_merge.specs.Listing.{ArchiveListing, listed_of}
 use Rattle.wb_merge.specs.Merge.{blank_record}
 use Rattle.wb_merge.specs.Merged.{Records, merged}
@@ -18,7 +18,7 @@ use Rattle.wb_merge.specs.Report.{record_after_report}
 -- ---- what lists have of it
 
 -- a source package in a Sources list, of this version and for these architectures
-abbrev pub source_of : List ℕ → List ℕ → List (List ℕ) → SourceRow
+abbrev pub source_of : List ℕ → List ℕ → List (List ℕ) → SourceParagraph
 source_of name version archs = record {
   name = name;
   version = version;
@@ -31,11 +31,11 @@ source_of name version archs = record {
 }
 
 -- a package in a Packages list, of this version and architecture, and with this text of its field Source
-abbrev pub binary_of : List ℕ → List ℕ → List ℕ → List ℕ → BinaryRow
+abbrev pub binary_of : List ℕ → List ℕ → List ℕ → List ℕ → BinaryParagraph
 binary_of name version arch source = with_source name version arch (Some source)
 
 -- the version that is listed of a source package for an architecture, if one is
-abbrev pub version_listed : ArchWords → List SourceRow → List ℕ → Option (List ℕ)
+abbrev pub version_listed : ArchWords → List SourceParagraph → List ℕ → Option (List ℕ)
 version_listed arch rows name = option_map (λ listed. listed.version) (listed_of arch rows name)
 
 -- ---- what a merge makes of it

@@ -19,7 +19,7 @@ use Rattle.wb_states.specs.Limits.{relations_limit}
 use Rattle.wb_states.specs.Moves.{waits_for}
 use Rattle.wb_merge.specs.declared.listing.Listed.{Listed}
 use Rattle.wb_merge.specs.declared.listing.Built.{Built}
-use Rattle.wb_merge.specs.Rows.{SourceRow, BinaryRow, source_rows, binary_rows}
+use Rattle.wb_merge.specs.Rows.{SourceParagraph, BinaryParagraph, source_rows, binary_rows}
 
 -- ---- the greatest of some, the first of equals
 
@@ -76,11 +76,11 @@ both_joined (Some first) None = None
 both_joined (Some first) (Some second) = within_limit (joined first second)
 
 -- what a source package needs to be built on the architecture, or none if that cannot be read: Build-Depends and Build-Depends-Arch (Debian Policy 7.7; that only these two fields are read is this project's own)
-unfoldable pub depends_of : ArchWords → SourceRow → Option (List ℕ)
+unfoldable pub depends_of : ArchWords → SourceParagraph → Option (List ℕ)
 depends_of arch row = both_joined (printed_for arch row.depends) (printed_for arch row.depends_arch)
 
 -- what is listed of a source package by a row, if this is what it needs to be built
-abbrev pub listed_with : Option (List ℕ) → SourceRow → Listed
+abbrev pub listed_with : Option (List ℕ) → SourceParagraph → Listed
 listed_with depends row = record {
   version = row.version;
   priority = row.priority;
@@ -89,15 +89,15 @@ listed_with depends row = record {
 }
 
 -- what is listed of a source package
-abbrev pub listed_as : ArchWords → SourceRow → Listed
+abbrev pub listed_as : ArchWords → SourceParagraph → Listed
 listed_as arch row = listed_with (depends_of arch row) row
 
 -- whether a row lists its source package for the architecture (Debian Policy 5.6.8; that a source which is only kept for others is not listed is this project's own)
-unfoldable pub is_listed : ArchWords → SourceRow → Bool
+unfoldable pub is_listed : ArchWords → SourceParagraph → Bool
 is_listed arch row = list_any (λ word. arch_matches word arch) row.archs && not row.is_extra
 
 -- whether a row lists the source package of this name for the architecture (Debian Policy 5.6.8)
-unfoldable pub is_candidate : ArchWords → List ℕ → SourceRow → Bool
+unfoldable pub is_candidate : ArchWords → List ℕ → SourceParagraph → Bool
 is_candidate arch name row = bytes_eq name row.name && is_listed arch row
 
 -- the versions of what is listed are compared as versions are (Debian Policy 5.6.12)
@@ -105,21 +105,21 @@ abbrev pub listed_cmp : Listed → Listed → Ordering
 listed_cmp = on (λ listed. listed.version) version_cmp
 
 -- what rows list of a source package, in their order
-unfoldable pub candidates : ArchWords → List SourceRow → List ℕ → List Listed
+unfoldable pub candidates : ArchWords → List SourceParagraph → List ℕ → List Listed
 candidates arch rows name = map (listed_as arch) (filter (is_candidate arch name) rows)
 
 -- what is listed of a source package: the greatest version, and of equal ones the first
-unfoldable pub listed_of : ArchWords → List SourceRow → List ℕ → Option Listed
+unfoldable pub listed_of : ArchWords → List SourceParagraph → List ℕ → Option Listed
 listed_of arch rows name = best_from listed_cmp None (candidates arch rows name)
 
 -- ---- binary packages
 
 -- whether a row is a package of this source that was built on the architecture
-unfoldable pub is_built_from : ArchWords → List ℕ → BinaryRow → Bool
+unfoldable pub is_built_from : ArchWords → List ℕ → BinaryParagraph → Bool
 is_built_from arch name row = bytes_eq name row.source && bytes_eq arch.name row.arch
 
 -- what a row says was built: the source version, and the number of the binary-only rebuild
-abbrev pub built_as : BinaryRow → Built
+abbrev pub built_as : BinaryParagraph → Built
 built_as row = record { version = row.source_version; number = row.number }
 
 -- builds are compared by their source versions, then by their numbers
@@ -127,24 +127,24 @@ abbrev pub built_cmp : Built → Built → Ordering
 built_cmp = then_cmp (on (λ built. built.version) version_cmp) (on (λ built. built.number) nat_cmp)
 
 -- the builds of a source package, in their order
-unfoldable pub builds : ArchWords → List BinaryRow → List ℕ → List Built
+unfoldable pub builds : ArchWords → List BinaryParagraph → List ℕ → List Built
 builds arch rows name = map built_as (filter (is_built_from arch name) rows)
 
 -- the latest build of a source package, and of equal ones the first
-unfoldable pub built_of : ArchWords → List BinaryRow → List ℕ → Option Built
+unfoldable pub built_of : ArchWords → List BinaryParagraph → List ℕ → Option Built
 built_of arch rows name = best_from built_cmp None (builds arch rows name)
 
 -- whether a row is a package that can be installed on the architecture (Debian Policy 5.6.8)
-unfoldable pub is_installable_on : ArchWords → BinaryRow → Bool
+unfoldable pub is_installable_on : ArchWords → BinaryParagraph → Bool
 is_installable_on arch row = bytes_eq row.arch arch.name || bytes_eq row.arch (codes "all")
 
 -- every pair of a name and a version that can be installed on the architecture (that `Provides` is not read is this project's own)
-unfoldable pub available_of : ArchWords → List BinaryRow → Pairs
+unfoldable pub available_of : ArchWords → List BinaryParagraph → Pairs
 available_of arch rows =
     fold (λ pairs row. with_pair pairs row.name row.version) no_pairs (filter (is_installable_on arch) rows)
 
 -- the versions of the packages of a name that can be installed on the architecture, in their order
-abbrev pub installable_versions : ArchWords → List BinaryRow → List ℕ → List (List ℕ)
+abbrev pub installable_versions : ArchWords → List BinaryParagraph → List ℕ → List (List ℕ)
 installable_versions arch rows name =
     map (λ row. row.version) (filter (λ row. bytes_eq name row.name) (filter (is_installable_on arch) rows))
 
@@ -165,7 +165,7 @@ unfoldable pub map_at : {K X : Type 0} {R : K → K → Ordering} → (K → Opt
 map_at f keys = finite.from_entries (filter_map (with_value f) keys)
 
 -- the listing of rows
-unfoldable pub listing_of_rows : ArchWords → List SourceRow → List BinaryRow → ArchiveListing
+unfoldable pub listing_of_rows : ArchWords → List SourceParagraph → List BinaryParagraph → ArchiveListing
 listing_of_rows arch sources packages = record {
   listed = map_at (listed_of arch sources) (map (λ row. row.name) sources);
   built = map_at (built_of arch packages) (map (λ row. row.source) packages);
@@ -173,7 +173,7 @@ listing_of_rows arch sources packages = record {
 }
 
 -- the listing of the rows of two lists, or the first refusal if a list was refused
-abbrev pub listing_in : ArchWords → Result (List SourceRow) Refusal → Result (List BinaryRow) Refusal → Result ArchiveListing Refusal
+abbrev pub listing_in : ArchWords → Result (List SourceParagraph) Refusal → Result (List BinaryParagraph) Refusal → Result ArchiveListing Refusal
 listing_in arch (Err refusal) packages = Err refusal
 listing_in arch (Ok sources) (Err refusal) = Err refusal
 listing_in arch (Ok sources) (Ok packages) = Ok (listing_of_rows arch sources packages)

@@ -13,7 +13,7 @@ use Rattle.wb_states.specs.declared.refusal.ListKind.{ListKind}
 use Rattle.wb_states.specs.declared.refusal.ListingFault.{ListingFault}
 use Rattle.wb_merge.specs.declared.listing.Listed.{Listed}
 use Rattle.wb_merge.specs.declared.listing.Built.{Built}
-use Rattle.wb_merge.specs.Rows.{SourceRow, BinaryRow, rows_behind, onto_rows}
+use Rattle.wb_merge.specs.Rows.{SourceParagraph, BinaryParagraph, rows_behind, onto_rows}
 use Rattle.wb_merge.specs.Listing.{is_better, is_listed, listed_cmp, listed_as, built_cmp, built_as, is_installable_on}
 
 -- ---- what a row adds
@@ -23,23 +23,23 @@ abbrev pub offered : {X : Type 0} → (X → X → Ordering) → finite.FinMap t
 offered R best name next = if is_better R (finite.get best name) next then finite.insert best name next else best
 
 -- what is listed, with a row more
-unfoldable pub with_listed : ArchWords → finite.FinMap text_cmp Listed → SourceRow → finite.FinMap text_cmp Listed
+unfoldable pub with_listed : ArchWords → finite.FinMap text_cmp Listed → SourceParagraph → finite.FinMap text_cmp Listed
 with_listed arch listed row = if is_listed arch row then offered listed_cmp listed row.name (listed_as arch row) else listed
 
 -- what is built, with a row more
-unfoldable pub with_build : ArchWords → finite.FinMap text_cmp Built → BinaryRow → finite.FinMap text_cmp Built
+unfoldable pub with_build : ArchWords → finite.FinMap text_cmp Built → BinaryParagraph → finite.FinMap text_cmp Built
 with_build arch built row = if bytes_eq arch.name row.arch then offered built_cmp built row.source (built_as row) else built
 
 -- what is available, with a row more
-unfoldable pub with_package : ArchWords → Pairs → BinaryRow → Pairs
+unfoldable pub with_package : ArchWords → Pairs → BinaryParagraph → Pairs
 with_package arch available row = if is_installable_on arch row then with_pair available row.name row.version else available
 
 -- what is built and what is available
-abbrev pub Found : Type 0
-Found = finite.FinMap text_cmp Built × Pairs
+abbrev pub PackageOffers : Type 0
+PackageOffers = finite.FinMap text_cmp Built × Pairs
 
 -- what is built and what is available, with a row more
-abbrev pub with_binary : ArchWords → Found → BinaryRow → Found
+abbrev pub with_binary : ArchWords → PackageOffers → BinaryParagraph → PackageOffers
 with_binary arch found row = (with_build arch found.0 row, with_package arch found.1 row)
 
 -- what rows add one after another, if there are rows

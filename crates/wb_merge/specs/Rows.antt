@@ -136,7 +136,7 @@ binary_fault fields = first_some (
 -- ---- rows
 
 -- what a merge reads from a paragraph of a Sources list
-pub record SourceRow : Type 0 where
+pub record SourceParagraph : Type 0 where
   pub name : List ℕ
   pub version : List ℕ
   pub archs : List (List ℕ)
@@ -147,7 +147,7 @@ pub record SourceRow : Type 0 where
   pub depends_arch : List ℕ
 
 -- what a merge reads from a paragraph of a Packages list
-pub record BinaryRow : Type 0 where
+pub record BinaryParagraph : Type 0 where
   pub name : List ℕ
   pub version : List ℕ
   pub arch : List ℕ
@@ -156,7 +156,7 @@ pub record BinaryRow : Type 0 where
   pub number : ℕ
 
 -- the row of a paragraph of a Sources list (which fields are read is this project's own)
-abbrev pub source_row : List FieldText → SourceRow
+abbrev pub source_row : List FieldText → SourceParagraph
 source_row fields = record {
   name = text_named (codes "Package") fields;
   version = text_named (codes "Version") fields;
@@ -169,7 +169,7 @@ source_row fields = record {
 }
 
 -- the row of a binary package that names no source: its source has the package's name and version (Debian Policy 5.6.1)
-abbrev pub without_source : List ℕ → List ℕ → List ℕ → BinaryRow
+abbrev pub without_source : List ℕ → List ℕ → List ℕ → BinaryParagraph
 without_source name version arch = record {
   name = name;
   version = version;
@@ -180,7 +180,7 @@ without_source name version arch = record {
 }
 
 -- the row of a binary package and the source that it names, if any (Debian Policy 5.6.1; that `+bN` counts only beside a version is this project's own)
-abbrev pub with_source : List ℕ → List ℕ → List ℕ → Option (List ℕ) → BinaryRow
+abbrev pub with_source : List ℕ → List ℕ → List ℕ → Option (List ℕ) → BinaryParagraph
 with_source name version arch None = without_source name version arch
 with_source name version arch (Some text) = record (without_source name version arch) {
   source = source_name text;
@@ -189,17 +189,17 @@ with_source name version arch (Some text) = record (without_source name version 
 }
 
 -- the row of a paragraph of a Packages list
-abbrev pub binary_row : List FieldText → BinaryRow
+abbrev pub binary_row : List FieldText → BinaryParagraph
 binary_row fields =
     with_source (text_named (codes "Package") fields) (text_named (codes "Version") fields)
     (text_named (codes "Architecture") fields) (value_named (codes "Source") fields)
 
 -- the row of a paragraph of a Sources list, or its fault
-unfoldable pub source_row_of : List FieldText → Result SourceRow ListingFault
+unfoldable pub source_row_of : List FieldText → Result SourceParagraph ListingFault
 source_row_of fields = ok_unless (source_fault fields) (source_row fields)
 
 -- the row of a paragraph of a Packages list, or its fault
-unfoldable pub binary_row_of : List FieldText → Result BinaryRow ListingFault
+unfoldable pub binary_row_of : List FieldText → Result BinaryParagraph ListingFault
 binary_row_of fields = ok_unless (binary_fault fields) (binary_row fields)
 
 -- what is read of a paragraph's fields, or the fault for which they cannot be read
@@ -208,11 +208,11 @@ of_fields read (Ok fields) = read fields
 of_fields read (Err kind) = Err (Control kind)
 
 -- the row of a paragraph of a Sources list, or its fault: that of its lines, else that of its fields
-abbrev pub source_paragraph : List (List ℕ) → Result SourceRow ListingFault
+abbrev pub source_paragraph : List (List ℕ) → Result SourceParagraph ListingFault
 source_paragraph lines = of_fields source_row_of (reading_of lines)
 
 -- the row of a paragraph of a Packages list, or its fault: that of its lines, else that of its fields
-abbrev pub binary_paragraph : List (List ℕ) → Result BinaryRow ListingFault
+abbrev pub binary_paragraph : List (List ℕ) → Result BinaryParagraph ListingFault
 binary_paragraph lines = of_fields binary_row_of (reading_of lines)
 
 -- ---- lists
@@ -234,11 +234,11 @@ rows_behind row_of which passed (lines ∷ later) =
     onto_rows (refused_at which (passed + 1) (row_of lines)) (rows_behind row_of which (passed + 1) later)
 
 -- the rows of a Sources list, or the refusal for its first faulty paragraph (that no list is compressed is this project's own)
-unfoldable pub source_rows : List ℕ → Result (List SourceRow) Refusal
+unfoldable pub source_rows : List ℕ → Result (List SourceParagraph) Refusal
 source_rows text = rows_behind source_paragraph Sources 0 (paragraphs_in (lines_of text))
 
 -- the rows of a Packages list, or the refusal for its first faulty paragraph (that no list is compressed is this project's own)
-unfoldable pub binary_rows : List ℕ → Result (List BinaryRow) Refusal
+unfoldable pub binary_rows : List ℕ → Result (List BinaryParagraph) Refusal
 binary_rows text = rows_behind binary_paragraph Packages 0 (paragraphs_in (lines_of text))
 
 -- ---- the first faulty paragraph

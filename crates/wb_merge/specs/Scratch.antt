@@ -22,7 +22,7 @@ use Rattle.wb_states.specs.declared.scratch.SourceRow.{SourceRow as KeptSource}
 use Rattle.wb_states.specs.declared.scratch.BinaryRow.{BinaryRow as KeptBinary}
 use Rattle.wb_merge.specs.declared.listing.Listed.{Listed}
 use Rattle.wb_merge.specs.declared.listing.Built.{Built}
-use Rattle.wb_merge.specs.Rows.{SourceRow, BinaryRow, text_named, source_fault, binary_row_of, onto_rows}
+use Rattle.wb_merge.specs.Rows.{SourceParagraph, BinaryParagraph, text_named, source_fault, binary_row_of, onto_rows}
 use Rattle.wb_merge.specs.Listing.{ArchiveListing, best_from, built_cmp, is_installable_on, listed_of, map_at}
 use Rattle.wb_merge.specs.Merge.{record_given}
 
@@ -47,7 +47,7 @@ unfoldable pub source_row_at : ℕ → List FieldText → Result KeptSource Refu
 source_row_at at fields = result_map_both (λ row. row) (BadListing Sources at) (ok_unless (source_fault fields) (source_columns at fields))
 
 -- what is kept of the row of the paragraph of this number of a Packages list
-abbrev pub binary_columns : ArchWords → ℕ → BinaryRow → KeptBinary
+abbrev pub binary_columns : ArchWords → ℕ → BinaryParagraph → KeptBinary
 binary_columns arch at row = record {
   seq = at;
   name = row.name;
@@ -59,7 +59,7 @@ binary_columns arch at row = record {
 }
 
 -- what is kept of a row of a Packages list: nothing if it cannot be installed on the architecture
-unfoldable pub kept_of : ArchWords → ℕ → BinaryRow → Option KeptBinary
+unfoldable pub kept_of : ArchWords → ℕ → BinaryParagraph → Option KeptBinary
 kept_of arch at row = if is_installable_on arch row then Some (binary_columns arch at row) else None
 
 -- what is kept of the paragraph of this number of a Packages list, or the refusal for its fault, whatever its architecture
@@ -95,7 +95,7 @@ kept_binaries arch text =
 -- ---- what the rows list
 
 -- the row of the paragraph of which this is kept
-abbrev pub row_of_kept : KeptSource → SourceRow
+abbrev pub row_of_kept : KeptSource → SourceParagraph
 row_of_kept row = record {
   name = row.name;
   version = row.version;

@@ -15,7 +15,7 @@ ghost use Rattle.deb_relations.specs.Reading.{reading_of};
 ghost use Rattle.deb_relations.specs.Satisfaction.{HaveSamePairs, Pairs, names_of, versions_of};
 ghost use Rattle.wb_merge.specs.declared.listing.Listed.{Listed};
 ghost use Rattle.wb_merge.specs.declared.listing.Built.{Built};
-ghost use Rattle.wb_merge.specs.Rows.{AreRows, IsFirstFault, NamesSource, SourceRow, BinaryRow, binary_paragraph, binary_rows, is_source_text, rebuild_number, source_name, source_paragraph, source_rows, with_version};
+ghost use Rattle.wb_merge.specs.Rows.{AreRows, IsFirstFault, NamesSource, SourceParagraph, BinaryParagraph, binary_paragraph, binary_rows, is_source_text, rebuild_number, source_name, source_paragraph, source_rows, with_version};
 ghost use Rattle.wb_merge.specs.Listing.{IsGreatest, available_of, built_of, installable_versions, is_candidate, is_listed, listed_cmp, candidates, built_cmp, builds, listing_of, listing_of_rows, ArchiveListing};
 ghost use Rattle.wb_states.specs.declared.record.Record.{Record};
 ghost use Rattle.wb_states.specs.declared.refusal.Refusal.{Refusal};
@@ -44,11 +44,11 @@ ghost use Rattle.deb_text.specs.Lists.{IsIn};
 /// that has a fault, with its number from 1: that of its lines, or else the first of its fields (Debian
 /// Policy 5.1; the numbers are this project's own).
 pub fn the_first_faulty_paragraph_decides()
-    ensures sources { (text : List ℕ) (rows : List SourceRow) → (source_rows text ≡ Ok rows)
+    ensures sources { (text : List ℕ) (rows : List SourceParagraph) → (source_rows text ≡ Ok rows)
         ↔ AreRows source_paragraph (paragraphs_in (lines_of text)) rows }
     ensures sources_fault { (text : List ℕ) (refusal : Refusal) → (source_rows text ≡ Err refusal)
         ↔ IsFirstFault Sources source_paragraph (paragraphs_in (lines_of text)) refusal }
-    ensures packages { (text : List ℕ) (rows : List BinaryRow) → (binary_rows text ≡ Ok rows)
+    ensures packages { (text : List ℕ) (rows : List BinaryParagraph) → (binary_rows text ≡ Ok rows)
         ↔ AreRows binary_paragraph (paragraphs_in (lines_of text)) rows }
     ensures packages_fault { (text : List ℕ) (refusal : Refusal) → (binary_rows text ≡ Err refusal)
         ↔ IsFirstFault Packages binary_paragraph (paragraphs_in (lines_of text)) refusal }
@@ -58,10 +58,10 @@ pub fn the_first_faulty_paragraph_decides()
 /// it, and of equal ones the first; nothing else is. Takes no memory (Debian Policy 5.6.12; that the first
 /// wins is this project's own).
 pub fn listed_is_greatest()
-    ensures is { (arch : ArchWords) (sources : List SourceRow) (packages : List BinaryRow)
+    ensures is { (arch : ArchWords) (sources : List SourceParagraph) (packages : List BinaryParagraph)
         (name : List ℕ) → IsGreatest listed_cmp (candidates arch sources name)
         (map.get (listing_of_rows arch sources packages).listed name) }
-    ensures only { (arch : ArchWords) (sources : List SourceRow) (packages : List BinaryRow)
+    ensures only { (arch : ArchWords) (sources : List SourceParagraph) (packages : List BinaryParagraph)
         (name : List ℕ) (found : Option Listed)
         → IsGreatest listed_cmp (candidates arch sources name) found
         → found ≡ map.get (listing_of_rows arch sources packages).listed name }
@@ -71,10 +71,10 @@ pub fn listed_is_greatest()
 /// number among those of the architecture, and of equal ones the first; nothing else is. Takes no memory
 /// (Debian Policy 5.6.12; that the first wins is this project's own).
 pub fn built_is_greatest()
-    ensures is { (arch : ArchWords) (sources : List SourceRow) (packages : List BinaryRow)
+    ensures is { (arch : ArchWords) (sources : List SourceParagraph) (packages : List BinaryParagraph)
         (name : List ℕ) → IsGreatest built_cmp (builds arch packages name)
         (map.get (listing_of_rows arch sources packages).built name) }
-    ensures only { (arch : ArchWords) (sources : List SourceRow) (packages : List BinaryRow)
+    ensures only { (arch : ArchWords) (sources : List SourceParagraph) (packages : List BinaryParagraph)
         (name : List ℕ) (found : Option Built)
         → IsGreatest built_cmp (builds arch packages name) found
         → found ≡ map.get (listing_of_rows arch sources packages).built name }
@@ -83,7 +83,7 @@ pub fn built_is_greatest()
 /// What is available of a name are the versions of all its packages that can be installed on the
 /// architecture, in the order of the list (Debian Policy 5.6.8).
 pub fn available_is_each_pair()
-    ensures versions { (arch : ArchWords) (rows : List BinaryRow) (name : List ℕ)
+    ensures versions { (arch : ArchWords) (rows : List BinaryParagraph) (name : List ℕ)
         → versions_of (available_of arch rows) name ≡ installable_versions arch rows name }
 {}
 

@@ -7,7 +7,7 @@ ghost use Rattle.wb_states.specs.declared.refusal.Refusal.TheVariants.{Memory};
 ghost use Rattle.wb_merge.specs.Listing.{printed_for, joined, both_joined, depends_of, listed_as, listed_with, listed_cmp, built_as, built_cmp, is_better};
 ghost use Rattle.wb_merge.specs.Offers.{with_listed, with_build, with_package};
 
-use crate::rows::{BinaryRow, SourceRow};
+use crate::rows::{BinaryParagraph, SourceParagraph};
 use crate::{Built, Listed};
 use deb_relations::{ArchWords, Available, RELATIONS_LIMIT, RelationFault, Relations};
 use deb_text::Text;
@@ -74,7 +74,11 @@ pub(crate) fn both_joined(
 
 /// What the source package needs to be built on the architecture, if that can be read.
 #[tactic(auto, unfolding(crate::specs::Listing::depends_of))]
-fn depends_of(alloc: Global, row: &SourceRow, arch: &ArchWords) -> Result<Option<Text>, Refusal>
+fn depends_of(
+    alloc: Global,
+    row: &SourceParagraph,
+    arch: &ArchWords,
+) -> Result<Option<Text>, Refusal>
     ensures value { IfOk result (λ depends. depends ≡ depends_of arch.now row.now) }
     ensures refused { IfErr result (λ refusal. refusal ≡ Memory) }
 {
@@ -82,7 +86,7 @@ fn depends_of(alloc: Global, row: &SourceRow, arch: &ArchWords) -> Result<Option
 }
 
 /// What the row lists, with what its source package needs to be built.
-fn listed_with(depends: Option<Text>, row: SourceRow) -> Listed
+fn listed_with(depends: Option<Text>, row: SourceParagraph) -> Listed
     ensures value { result ≡ listed_with depends row }
 {
     Listed {
@@ -94,7 +98,7 @@ fn listed_with(depends: Option<Text>, row: SourceRow) -> Listed
 }
 
 /// Whether the row is of a later version than what is listed of its source package so far.
-fn is_later_source(listed: &BTreeMap<Text, Listed>, row: &SourceRow) -> bool
+fn is_later_source(listed: &BTreeMap<Text, Listed>, row: &SourceParagraph) -> bool
     ensures { (arch : Arch) → result
         ≡ is_better listed_cmp
         (map.get (map.from_entries {R = text_cmp} listed.now.entries) row.now.name)
@@ -112,7 +116,7 @@ pub(crate) fn offer_source(
     alloc: Global,
     listed: &mut BTreeMap<Text, Listed>,
     arch: &ArchWords,
-    row: SourceRow,
+    row: SourceParagraph,
 ) -> Result<(), Refusal>
     ensures value { OnOk result (map.from_entries {R = text_cmp} listed.new.entries
         ≡ with_listed arch.now (map.from_entries {R = text_cmp} listed.old.entries) row) }
@@ -131,7 +135,7 @@ pub(crate) fn offer_source(
 }
 
 /// Whether the row is of a later build than what is built of its source package so far.
-fn is_later_build(built: &BTreeMap<Text, Built>, row: &BinaryRow) -> bool
+fn is_later_build(built: &BTreeMap<Text, Built>, row: &BinaryParagraph) -> bool
     ensures { result
         ≡ is_better built_cmp
         (map.get (map.from_entries {R = text_cmp} built.now.entries) row.now.source)
@@ -150,7 +154,7 @@ fn is_later_build(built: &BTreeMap<Text, Built>, row: &BinaryRow) -> bool
 pub(crate) fn offer_build(
     built: &mut BTreeMap<Text, Built>,
     arch: &ArchWords,
-    row: &BinaryRow,
+    row: &BinaryParagraph,
 ) -> Result<(), Refusal>
     ensures value { OnOk result (map.from_entries {R = text_cmp} built.new.entries
         ≡ with_build arch.now (map.from_entries {R = text_cmp} built.old.entries) row.now) }
@@ -175,7 +179,7 @@ pub(crate) fn offer_build(
 pub(crate) fn offer_package(
     available: &mut Available,
     arch: &ArchWords,
-    row: BinaryRow,
+    row: BinaryParagraph,
 ) -> Result<(), Refusal>
     ensures value { OnOk result (available.new ≡ with_package arch.now available.old row) }
     ensures refused { IfErr result (λ refusal. refusal ≡ Memory) }

@@ -8,7 +8,7 @@ ghost use Rattle.wb_merge.specs.Rows.{source_paragraph, binary_paragraph};
 ghost use Rattle.wb_merge.specs.Offers.{rows_at, HasPassed, GivesRow};
 ghost use Rattle.wb_merge.specs.Growth.{ahead_takes_memory};
 
-use crate::rows::{BinaryRow, SourceRow};
+use crate::rows::{BinaryParagraph, SourceParagraph};
 use deb_control::{ControlFaultKind, Paragraphs};
 use std::alloc::Global;
 use wb_states::{ListKind, ListingFault, Refusal};
@@ -44,7 +44,7 @@ pub(crate) fn next_source(
     alloc: Global,
     paragraphs: &mut Paragraphs<'_>,
     passed: u64,
-) -> Result<Option<SourceRow>, Refusal>
+) -> Result<Option<SourceParagraph>, Refusal>
     requires { HasPassed paragraphs.old passed }
     ensures value { IfOk result (λ found. IfSome found (λ row.
         GivesRow source_paragraph Sources paragraphs.old row paragraphs.new)) }
@@ -60,7 +60,7 @@ pub(crate) fn next_source(
 {
     let bad = match paragraphs.next(alloc) {
         Ok(None) => return Ok(None),
-        Ok(Some(paragraph)) => match SourceRow::read(alloc, &paragraph) {
+        Ok(Some(paragraph)) => match SourceParagraph::read(alloc, &paragraph) {
             Ok(row) => return Ok(Some(row)),
             Err(fault) => ListFault {
                 paragraph: passed + 1,
@@ -80,7 +80,7 @@ pub(crate) fn next_binary(
     alloc: Global,
     paragraphs: &mut Paragraphs<'_>,
     passed: u64,
-) -> Result<Option<BinaryRow>, Refusal>
+) -> Result<Option<BinaryParagraph>, Refusal>
     requires { HasPassed paragraphs.old passed }
     ensures value { IfOk result (λ found. IfSome found (λ row.
         GivesRow binary_paragraph Packages paragraphs.old row paragraphs.new)) }
@@ -96,7 +96,7 @@ pub(crate) fn next_binary(
 {
     let bad = match paragraphs.next(alloc) {
         Ok(None) => return Ok(None),
-        Ok(Some(paragraph)) => match BinaryRow::read(alloc, &paragraph) {
+        Ok(Some(paragraph)) => match BinaryParagraph::read(alloc, &paragraph) {
             Ok(row) => return Ok(Some(row)),
             Err(fault) => ListFault {
                 paragraph: passed + 1,

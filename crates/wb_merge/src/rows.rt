@@ -47,7 +47,7 @@ pub(crate) fn is_listed(archs: &Text, is_extra: bool, arch: &ArchWords) -> bool
 
 /// What a merge reads from a paragraph of a Sources list (Debian Policy 5.4).
 #[derive(Drop)]
-pub(crate) struct SourceRow {
+pub(crate) struct SourceParagraph {
     pub(crate) name: Text,
     pub(crate) version: Version,
     archs: Text,
@@ -58,11 +58,11 @@ pub(crate) struct SourceRow {
     pub(crate) depends_arch: Text,
 }
 
-impl Model for SourceRow {
+impl Model for SourceParagraph {
     ghost use Rattle.deb_text.specs.Lines.{words_in};
-    ghost use Rattle.wb_merge.specs.Rows.{SourceRow};
+    ghost use Rattle.wb_merge.specs.Rows.{SourceParagraph};
 
-    ghost Value = { SourceRow };
+    ghost Value = { SourceParagraph };
 
     ghost view = { λ row. record {
       name = row.name;
@@ -103,16 +103,19 @@ pub(crate) fn source_columns<F: Fields>(
     })
 }
 
-impl SourceRow {
+impl SourceParagraph {
     /// Reads a paragraph of a Sources list.
     #[tactic(auto, unfolding(crate::specs::Rows::source_row_of))]
-    pub(crate) fn read<F: Fields>(alloc: Global, fields: &F) -> Result<SourceRow, ListingFault>
+    pub(crate) fn read<F: Fields>(
+        alloc: Global,
+        fields: &F,
+    ) -> Result<SourceParagraph, ListingFault>
         ensures value { IfOk result (λ row. source_row_of (F.fields fields.now) ≡ Ok row) }
         ensures refused { IfErr result (λ fault. fault ≢ Control Memory
             → source_row_of (F.fields fields.now) ≡ Err fault) }
     {
         let kept = source_columns(alloc, fields, 0)?;
-        Ok(SourceRow {
+        Ok(SourceParagraph {
             name: kept.name,
             version: kept.version,
             archs: kept.architecture,
@@ -125,7 +128,7 @@ impl SourceRow {
     }
 }
 
-impl SourceRow {
+impl SourceParagraph {
     /// Whether the row lists its source package for the architecture (Debian Policy 5.6.8).
     #[tactic(auto, unfolding(crate::specs::Listing::is_listed))]
     pub(crate) fn is_listed(&self, arch: &ArchWords) -> bool
@@ -137,7 +140,7 @@ impl SourceRow {
 
 /// What a merge reads from a paragraph of a Packages list (Debian Policy 5.3).
 #[derive(Drop)]
-pub(crate) struct BinaryRow {
+pub(crate) struct BinaryParagraph {
     pub(crate) name: Text,
     pub(crate) version: Version,
     pub(crate) arch: Text,
@@ -146,11 +149,11 @@ pub(crate) struct BinaryRow {
     pub(crate) number: u16,
 }
 
-impl Model for BinaryRow {
+impl Model for BinaryParagraph {
     ghost use Rattle.std.specs.Prelude.{unwrap_or};
-    ghost use Rattle.wb_merge.specs.Rows.{BinaryRow};
+    ghost use Rattle.wb_merge.specs.Rows.{BinaryParagraph};
 
-    ghost Value = { BinaryRow };
+    ghost Value = { BinaryParagraph };
 
     ghost view = { λ row. record {
       name = row.name;
@@ -170,7 +173,7 @@ fn with_source(
     version: Version,
     arch: Text,
     source: &str,
-) -> Result<BinaryRow, ListingFault>
+) -> Result<BinaryParagraph, ListingFault>
     ensures value { IfOk result (λ row. row ≡ with_source name version arch (Some source.now)) }
     ensures ok { OnOk result (is_source_text source.now ≡ true) }
     ensures bad { IfErr result (λ fault. fault ≢ Control Memory
@@ -185,7 +188,7 @@ fn with_source(
     } else {
         0
     };
-    Ok(BinaryRow {
+    Ok(BinaryParagraph {
         name,
         version,
         arch,
@@ -195,10 +198,13 @@ fn with_source(
     })
 }
 
-impl BinaryRow {
+impl BinaryParagraph {
     /// Reads a paragraph of a Packages list.
     #[tactic(auto, unfolding(crate::specs::Rows::binary_row_of, crate::specs::Rows::binary_fault, crate::specs::Rows::optional_fault))]
-    pub(crate) fn read<F: Fields>(alloc: Global, fields: &F) -> Result<BinaryRow, ListingFault>
+    pub(crate) fn read<F: Fields>(
+        alloc: Global,
+        fields: &F,
+    ) -> Result<BinaryParagraph, ListingFault>
         ensures value { IfOk result (λ row. binary_row_of (F.fields fields.now) ≡ Ok row) }
         ensures refused { IfErr result (λ fault. fault ≢ Control Memory
             → binary_row_of (F.fields fields.now) ≡ Err fault) }
@@ -212,7 +218,7 @@ impl BinaryRow {
         let arch = architectures(alloc, fields)?;
         match value(alloc, fields, "Source")? {
             Some(source) => with_source(alloc, name, version, arch, source.as_str()),
-            None => Ok(BinaryRow {
+            None => Ok(BinaryParagraph {
                 name,
                 version,
                 arch,

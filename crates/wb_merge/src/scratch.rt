@@ -37,7 +37,11 @@ pub fn source_row<F: Fields>(alloc: Global, fields: &F, at: u64) -> Result<Sourc
 
 /// What is kept of a row, if its package can be installed on the architecture.
 #[tactic(auto, unfolding(crate::specs::Scratch::kept_of, crate::specs::Listing::is_installable_on))]
-fn kept(row: rows::BinaryRow, at: u64, arch: &ArchWords) -> Result<Option<BinaryRow>, AllocError>
+fn kept(
+    row: rows::BinaryParagraph,
+    at: u64,
+    arch: &ArchWords,
+) -> Result<Option<BinaryRow>, AllocError>
     ensures value { IfOk result (λ kept. kept ≡ kept_of arch.now at row) }
 {
     let own = arch.name == row.arch;
@@ -75,7 +79,7 @@ pub fn binary_row<F: Fields>(
     ensures memory { IfErr result (λ refusal. refusal ≡ Memory
         → IsSome (value_named (codes "Package") (F.fields fields.now))) }
 {
-    match rows::BinaryRow::read(alloc, fields) {
+    match rows::BinaryParagraph::read(alloc, fields) {
         Ok(row) => Ok(kept(row, at, arch)?),
         Err(fault) => Err(refuse(
             ListKind::Packages,

@@ -6,14 +6,14 @@ use Rattle.deb_text.specs.Text.{pair_cmp}
 use Rattle.deb_text.proofs.KeyLemmas.{text_cmp_total, text_cmp-same}
 use Rattle.wb_states.specs.declared.command.Command.{Command}
 use Rattle.wb_states.specs.declared.arch.OsCpu.{OsCpu}
-use Rattle.wb_states.specs.declared.subject.Names.{Names}
+use Rattle.wb_states.specs.declared.subject.Subject.{Subject}
 use Rattle.wb_states.specs.Holds.{held_of}
 use Rattle.wb_states.specs.Machine.{Machine, Key, empty_office}
 use Rattle.wb_states.specs.Queue.{Entry}
 use Rattle.wb_states.specs.Subject.{subject_named, subject_of}
 use Rattle.wb_step.specs.Named.{entries_named, held_again, holder_pairs, listed, others_named as others_of, part_named}
 use Rattle.wb_step.specs.Targets.{record_named, first_named as first_of}
-use Rattle.wb_office.specs.declared.named.found.Found.{Found}
+use Rattle.wb_office.specs.declared.named.found.FoundPart.{FoundPart}
 use Rattle.wb_office.specs.Sought.{HasFound, entries_found, office_of}
 use Rattle.wb_office.specs.Sought.{with_archs, with_entries, with_entry, with_holder, with_pairs}
 
@@ -76,7 +76,7 @@ with_entries-made machine (entry ∷ entries) pairs none few =
     })
 
 -- the office that is made of counts, architectures, pairs and records
-pub office_made : (found : Found) (counted : Machine)
+pub office_made : (found : FoundPart) (counted : Machine)
     → counted ≡ record empty_office { handed = found.counts.handed; accepted = found.counts.accepted }
     → with_entries (with_pairs (with_archs counted found.archs.items) found.pairs.items) (entries_found found) ≡ office_of found
 unfolding empty_office office_of
@@ -113,7 +113,7 @@ archs_kept machine =
     (λ q. map.get-from_entries text_cmp_total (map.entries machine.archs) q ∙ sym (map.get-entries machine.archs q))
 
 -- the office that has what was found is the part that the command names
-pub part_found : (machine : Machine) (command : Command) (names : Names) (found : Found) → HasFound machine command names found
+pub part_found : (machine : Machine) (command : Command) (names : Subject) (found : FoundPart) → HasFound machine command names found
     → subject_named names ≡ subject_of command → office_of found ≡ part_named machine command
 unfolding office_of part_named
 part_found machine command names found h named =

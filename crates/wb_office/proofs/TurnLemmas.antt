@@ -14,15 +14,15 @@ use Rattle.wb_store.specs.Calls.{Becomes, Changes, FailsToWrite}
 use Rattle.wb_store.specs.Settled.{IsUnderWay, IsBackAt}
 use Rattle.wb_store.specs.Writes.{OfficeWrite}
 use Rattle.wb_store.proofs.SettledLemmas.{not_changed}
-use Rattle.wb_office.specs.Changed.{FailsAtOnce, Reaches}
+use Rattle.wb_office.specs.Changed.{FailsAtOnce, ComesToStandFor}
 use Rattle.wb_office.specs.Turns.{StopsWith, IsNoOffice, ChangesInTurn}
 use Rattle.wb_office.proofs.WriteLemmas.{becomes_then, if_err, on_err, reached_inside, reached_stands, reached_way, survives_itself}
 
 module _ {S : Type 0} (g : Ghosts S) where
   -- ---- what the database comes to
 
-  comes_then : {between machine : Machine} (old mid new : Held S) → Reaches g between old mid → Reaches g machine mid new → Reaches g machine old new
-  comes_then {machine = machine} old mid new (inl nothing) two = subst (λ held. Reaches g machine held new) (sym nothing.0) two
+  comes_then : {between machine : Machine} (old mid new : Held S) → ComesToStandFor g between old mid → ComesToStandFor g machine mid new → ComesToStandFor g machine old new
+  comes_then {machine = machine} old mid new (inl nothing) two = subst (λ held. ComesToStandFor g machine held new) (sym nothing.0) two
   comes_then {machine = machine} old mid new (inr one) (inl nothing) =
       inr (subst (λ held. Becomes machine (state g old) (state g held)) nothing.0 (record { stands = subst (λ (held : Held S). StandsFor machine (state g held).now) (sym nothing.0) nothing.1; shown = one.shown; schema_is = one.schema_is; marks = one.marks; others = one.others; limit = one.limit }))
   comes_then old mid new (inr one) (inr two) = inr (becomes_then g old mid new (inr one) two)
@@ -51,7 +51,7 @@ module _ {S : Type 0} (g : Ghosts S) where
     then_changes x r one two =
         let before : HasCleanDisk (state g new) → HasCleanDisk (state g mid) = λ clean. omega (arith, two.survives.clean, clean) in
         record {
-          ok = λ clean. on_ok {P = (machine : Machine) → StandsFor machine (state g mid).now → Reaches g (second machine) mid new} r (λ makes machine stands.
+          ok = λ clean. on_ok {P = (machine : Machine) → StandsFor machine (state g mid).now → ComesToStandFor g (second machine) mid new} r (λ makes machine stands.
               let made = one.ok (before clean) machine stands in
               comes_then old mid new made (makes (first machine) (reached_stands g old mid made))) (two.ok clean);
           cause = λ clean inside machine stands.

@@ -22,7 +22,7 @@ use Rattle.wb_store.specs.Writes.{OfficeWrite}
 use Rattle.wb_store.proofs.OthersLemmas.{others_then}
 pub use Rattle.wb_store.specs.MergeLaws.{survives_itself}
 use Rattle.wb_store.proofs.SettledLemmas.{not_changed, stays_or_goes_back}
-use Rattle.wb_office.specs.Changed.{HasFittingCounts, LacksFittingNumbers, found_at, IsStepOf, IsWriteOf, before_counts, Reaches, FailsAtOnce, Writes, IsLeftOrBack, ChangesBy, IsEntering, IsWriteOfRecord}
+use Rattle.wb_office.specs.Changed.{HasFittingCounts, LacksFittingNumbers, found_at, IsStepOf, IsWriteOf, before_counts, ComesToStandFor, FailsAtOnce, Writes, IsLeftOrBack, ChangesBy, IsEntering, IsWriteOfRecord}
 use Rattle.wb_store.proofs.StaysLemmas.{no_more}
 use Rattle.wb_office.proofs.StepOfLemmas.{same_counts}
 
@@ -43,8 +43,8 @@ module _ {S A : Type 0} {g : Ghosts S} {old new : Held S} {r : Result A StoreFau
       → ((e : StoreFault) → Room e → Fits e) → ((machine : Machine) → Allows machine → Given machine × (made machine ≡ after machine))
       → Writes g Is Room Given made old new r → Writes g All Fits Allows after old new r
   writes_same {Is = Is} {All = All} {Room = Room} {Fits = Fits} {Given = Given} {made = made} all fits same one = record {
-    ok = λ clean. on_ok {P = (machine : Machine) → StandsFor machine (state g old).now → Given machine → Reaches g (made machine) old new} r
-        (λ makes machine stands allows. subst (λ m. Reaches g m old new) (same machine allows).1 (makes machine stands (same machine allows).0)) (one.ok clean);
+    ok = λ clean. on_ok {P = (machine : Machine) → StandsFor machine (state g old).now → Given machine → ComesToStandFor g (made machine) old new} r
+        (λ makes machine stands allows. subst (λ m. ComesToStandFor g m old new) (same machine allows).1 (makes machine stands (same machine allows).0)) (one.ok clean);
     err = λ clean inside. if_err {P = FailsAtOnce g Is Room old new} r (λ e failed. unfit e failed) (one.err clean inside);
     survives = one.survives;
   }
@@ -87,12 +87,12 @@ record_written command key after false same (write.AddsBuilder pair) none = absu
 
 module _ {S : Type 0} (g : Ghosts S) (old new : Held S) where
   -- a write leaves a database that stands for what it made
-  pub reached_stands : {machine : Machine} → Reaches g machine old new → StandsFor machine (state g new).now
+  pub reached_stands : {machine : Machine} → ComesToStandFor g machine old new → StandsFor machine (state g new).now
   reached_stands (inl same) = same.1
   reached_stands (inr made) = made.stands
 
   -- a write leaves the transaction under way
-  pub reached_way : {before now machine : Machine} → Reaches g machine old new → LeavesNoMore (state g old) (state g new) → IsUnderWay before now (state g old) → IsUnderWay before machine (state g new)
+  pub reached_way : {before now machine : Machine} → ComesToStandFor g machine old new → LeavesNoMore (state g old) (state g new) → IsUnderWay before now (state g old) → IsUnderWay before machine (state g new)
   reached_way {before = before} {now = now} {machine = machine} (inl same) less way =
       let here : IsUnderWay before now (state g new) = subst (λ (h : Held S). IsUnderWay before now (state g h)) same.0 way in
       record { is_open = here.is_open; inside = here.inside; stands = same.1; began = here.began; alone = here.alone }
@@ -114,7 +114,7 @@ module _ {S : Type 0} (g : Ghosts S) (old new : Held S) where
 
 module _ {S : Type 0} (g : Ghosts S) (old mid new : Held S) where
   -- one change after another
-  pub becomes_then : {between machine : Machine} → Reaches g between old mid → Becomes machine (state g mid) (state g new) → Becomes machine (state g old) (state g new)
+  pub becomes_then : {between machine : Machine} → ComesToStandFor g between old mid → Becomes machine (state g mid) (state g new) → Becomes machine (state g old) (state g new)
   becomes_then {machine = machine} (inl same) made = subst (λ (h : Held S). Becomes machine (state g h) (state g new)) (sym same.0) made
   becomes_then (inr one) two = record {
     stands = two.stands;
@@ -132,7 +132,7 @@ module _ {S : Type 0} (g : Ghosts S) (old mid new : Held S) where
   }
 
 -- a write leaves the transaction that it was in
-pub reached_inside : {S : Type 0} (g : Ghosts S) (old mid : Held S) {between : Machine} → Reaches g between old mid → IsTrue old.in_transaction → IsTrue mid.in_transaction
+pub reached_inside : {S : Type 0} (g : Ghosts S) (old mid : Held S) {between : Machine} → ComesToStandFor g between old mid → IsTrue old.in_transaction → IsTrue mid.in_transaction
 reached_inside {S = S} g old mid (inl same) inside = subst (λ (h : Held S). IsTrue h.in_transaction) same.0 inside
 reached_inside g old mid (inr made) inside = subst IsTrue (sym made.shown.mode) refl
 

@@ -94,8 +94,8 @@ IsWriteOf command key after it = (is_new : Bool) × (IsTrue is_new ↔ IsEnterin
 -- ---- a part of a change
 
 -- the database stands for this state: a statement made it so in a transaction, or nothing was written
-abbrev pub Reaches : {S : Type 0} → Ghosts S → Machine → Held S → Held S → Type 0
-Reaches g machine old new = ((old ≡ new) × StandsFor machine (state g new).now) ⊎ Becomes machine (state g old) (state g new)
+abbrev pub ComesToStandFor : {S : Type 0} → Ghosts S → Machine → Held S → Held S → Type 0
+ComesToStandFor g machine old new = ((old ≡ new) × StandsFor machine (state g new).now) ⊎ Becomes machine (state g old) (state g new)
 
 -- one of these writes failed with this fault, and nothing was written or the whole transaction is taken back
 abbrev pub FailsToWriteOne : (OfficeWrite → Type 0) → State → State → StoreFault → Type 0
@@ -108,7 +108,7 @@ FailsAtOnce g Is Why old new fault = FailsToWriteOne Is (state g old) (state g n
 -- one of these writes in a transaction, or none: if it succeeds, a database that stood for a state that allows it stands for the state after it; if it
 -- fails, the write failed, or was not made for one of these reasons; and a crash leaves no more than before
 pub record Writes {S A : Type 0} (g : Ghosts S) (Is : OfficeWrite → Type 0) (Why : StoreFault → Type 0) (Allows : Machine → Type 0) (after : Machine → Machine) (old new : Held S) (result : Result A StoreFault) : Type 0 where
-  pub ok : HasCleanDisk (state g new) → OnOk result ((machine : Machine) → StandsFor machine (state g old).now → Allows machine → Reaches g (after machine) old new)
+  pub ok : HasCleanDisk (state g new) → OnOk result ((machine : Machine) → StandsFor machine (state g old).now → Allows machine → ComesToStandFor g (after machine) old new)
   pub err : HasCleanDisk (state g new) → IsTrue old.in_transaction → IfErr result (FailsAtOnce g Is Why old new)
   pub survives : Survives (state g old) (state g new) (λ _. ¬ HasOffice old.schema)
 
@@ -123,7 +123,7 @@ StandsForStep g command key after held = (whole : Machine) × StandsFor whole (s
 abbrev pub FailsToChange : {S : Type 0} → Ghosts S → Command → Option Key → Machine → Machine → Held S → Held S → StoreFault → Type 0
 FailsToChange {S} g command key after whole old new fault =
     FailsAtOnce g (IsWriteOf command key after) (LacksFittingNumbers after key) old new fault
-    ⊎ ((mid : Held S) × Reaches g (before_counts command whole) old mid × FailsToWrite (write.SetsCounts after.handed after.accepted) (state g mid) (state g new) fault)
+    ⊎ ((mid : Held S) × ComesToStandFor g (before_counts command whole) old mid × FailsToWrite (write.SetsCounts after.handed after.accepted) (state g mid) (state g new) fault)
 
 -- after a failure the transaction from the state `before` is under way, with some of what it was to write, or it is taken back
 abbrev pub IsLeftOrBack : {S : Type 0} → Ghosts S → Machine → Held S → Type 0

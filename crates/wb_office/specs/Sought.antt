@@ -6,7 +6,7 @@ use Rattle.std.specs.FinSet as set
 use Rattle.deb_text.specs.Text.{pair_cmp}
 use Rattle.wb_states.specs.declared.arch.OsCpu.{OsCpu}
 use Rattle.wb_states.specs.declared.command.Command.{Command}
-use Rattle.wb_states.specs.declared.subject.Names.{Names}
+use Rattle.wb_states.specs.declared.subject.Subject.{Subject}
 use Rattle.wb_states.specs.Machine.{Machine, Key}
 use Rattle.wb_states.specs.Queue.{Entry}
 use Rattle.wb_states.specs.Lookups.{entry_of}
@@ -14,23 +14,23 @@ use Rattle.wb_states.specs.Subject.{subject_named}
 use Rattle.wb_step.specs.Named as beside
 use Rattle.wb_step.specs.Named.{holder_pairs, listed, pairs_named}
 use Rattle.wb_step.specs.Targets as subject
-use Rattle.wb_office.specs.declared.named.found.Found.{Found}
+use Rattle.wb_office.specs.declared.named.found.FoundPart.{FoundPart}
 use Rattle.wb_office.specs.Keys.{key_at}
 
 -- the record that is named by its source package, by its take number, or as the head of a queue
-abbrev pub first_named : Machine → Names → Option Entry
+abbrev pub first_named : Machine → Subject → Option Entry
 first_named machine names = subject.first_named machine (subject_named names)
 
 -- the other records that are named: what a builder that asks again holds
-abbrev pub others_named : Machine → Names → List Entry
+abbrev pub others_named : Machine → Subject → List Entry
 others_named machine names = beside.others_named machine (subject_named names)
 
 -- the key of the record that is put: it is named, or that of the record which is found
-abbrev pub key_named : Names → Option Entry → Option Key
+abbrev pub key_named : Subject → Option Entry → Option Key
 key_named names first = key_at (subject_named names) first
 
 -- what was found is what a command names of this state, if the records that it names are these
-pub record HasFound (machine : Machine) (command : Command) (names : Names) (found : Found) : Type 0 where
+pub record HasFound (machine : Machine) (command : Command) (names : Subject) (found : FoundPart) : Type 0 where
   pub handed : found.counts.handed ≡ machine.handed
   pub accepted : found.counts.accepted ≡ machine.accepted
   pub archs : found.archs.items ≡ map.entries machine.archs
@@ -39,11 +39,11 @@ pub record HasFound (machine : Machine) (command : Command) (names : Names) (fou
   pub pairs : found.pairs.items ≡ pairs_named machine command
 
 -- the records that were found, the first one before the others
-abbrev pub entries_found : Found → List Entry
+abbrev pub entries_found : FoundPart → List Entry
 entries_found found = listed (option_map entry_of found.first) ++ each entry_of found.others.items
 
 -- the office that has what was found and the pairs of the records' holders
-unfoldable pub office_of : Found → Machine
+unfoldable pub office_of : FoundPart → Machine
 office_of found = record {
   records = map.from_entries (entries_found found);
   archs = map.from_entries found.archs.items;

@@ -8,11 +8,11 @@ use Rattle.wb_states.specs.Machine.{Machine}
 use Rattle.wb_store.specs.Stands.{StandsFor}
 use Rattle.wb_store.specs.Settled.{IsUnderWay}
 use Rattle.wb_store.specs.Writes.{OfficeWrite}
-use Rattle.wb_office.specs.Changed.{FailsAtOnce, Reaches, IsLeftOrBack}
+use Rattle.wb_office.specs.Changed.{FailsAtOnce, ComesToStandFor, IsLeftOrBack}
 
 -- these writes stopped with this fault: the database stood for some state after those before it, and then one failed, or was not made for this reason
 abbrev pub StopsWith : {S : Type 0} → Ghosts S → (OfficeWrite → Type 0) → (StoreFault → Type 0) → Held S → Held S → StoreFault → Type 0
-StopsWith {S} g Is Why old new fault = (now : Machine) × (mid : Held S) × Reaches g now old mid × FailsAtOnce g Is Why mid new fault
+StopsWith {S} g Is Why old new fault = (now : Machine) × (mid : Held S) × ComesToStandFor g now old mid × FailsAtOnce g Is Why mid new fault
 
 -- the database stands for no state of an office
 abbrev pub IsNoOffice : {S : Type 0} → Ghosts S → Held S → Type 0
@@ -23,7 +23,7 @@ IsNoOffice g held = (machine : Machine) → ¬ StandsFor machine (state g held).
 -- no more than before
 pub record ChangesInTurn {S A : Type 0} (g : Ghosts S) (Is : OfficeWrite → Type 0) (Why : StoreFault → Type 0) (after : Machine → Machine) (old new : Held S)
     (result : Result A StoreFault) : Type 0 where
-  pub ok : HasCleanDisk (state g new) → OnOk result ((machine : Machine) → StandsFor machine (state g old).now → Reaches g (after machine) old new)
+  pub ok : HasCleanDisk (state g new) → OnOk result ((machine : Machine) → StandsFor machine (state g old).now → ComesToStandFor g (after machine) old new)
   pub cause : HasCleanDisk (state g new) → IsTrue old.in_transaction → (machine : Machine) → StandsFor machine (state g old).now
       → IfErr result (StopsWith g Is Why old new)
   pub err : HasCleanDisk (state g new) → (before now : Machine) → IsUnderWay before now (state g old) → OnErr result (IsLeftOrBack g before new)

@@ -33,13 +33,13 @@ pub(crate) fn write_change<S: Alter + Drop>(
     ensures changes { ChangesBy S.Store command.now key.now after.now
         writing.old.store.now writing.new.store.now result }
 {
-    let counts = counts_of(after)?;
+    let counts = counts_after(after)?;
     write_subject(writing, command, key, after)?;
     writing.set_counts(counts)
 }
 
 /// The counts of the part of the office, which are those of the whole one, if they fit.
-pub(crate) fn counts_of(after: &OfficePart) -> Result<Counts, StoreFault>
+pub(crate) fn counts_after(after: &OfficePart) -> Result<Counts, StoreFault>
     ensures value { IfOk result (λ counts.
         (counts.handed ≡ after.now.handed) × (counts.accepted ≡ after.now.accepted)) }
     ensures fits { OnOk result (HasFittingCounts after.now) }

@@ -13,8 +13,8 @@ mod part;
 
 use deb_text::Text;
 use found::find;
-pub(crate) use found::{Found, keyed};
-use names::{Names, key_of};
+pub(crate) use found::{FoundPart, keyed};
+use names::{Subject, key_of};
 pub(crate) use part::part_of;
 use sqlite::Alter;
 use std::alloc::Global;
@@ -32,7 +32,7 @@ pub(crate) struct Named {
 }
 
 /// An office of what was found, and the key of the record that is put. The only error is `Memory`.
-fn named_of(alloc: Global, names: &Names<'_>, found: Found) -> Result<Named, StoreFault>
+fn named_of(alloc: Global, names: &Subject<'_>, found: FoundPart) -> Result<Named, StoreFault>
     ensures part { IfOk result (λ named. named.part ≡ office_of found) }
     ensures key { IfOk result (λ named. named.key
         ≡ key_named names.now (option_map entry_of found.first)) }

@@ -19,7 +19,7 @@ use Rattle.wb_states.specs.Names.{is_builder_name}
 use Rattle.wb_states.specs.Record.{IsWellFormed}
 use Rattle.deb_text.specs.Text.{IsTextWithin, is_empty_text}
 use Rattle.wb_states.specs.State.{is_held, is_dep_wait}
-use Rattle.wb_states.specs.Table.{row_of, HasForm}
+use Rattle.wb_states.specs.MoveTable.{row_of, HasForm}
 use Rattle.wb_states.proofs.InStateLemmas.{empty_within}
 use Rattle.wb_states.proofs.MoveRowLemmas.{move_outcome-done, move_outcome-row, move_outcome-value, take-from, built-from, uploaded-from, put_back-from, attempted-ready, rebuild-from, rebuild-free}
 

@@ -14,7 +14,7 @@ use Rattle.wb_states.specs.State.{code_of, is_held, is_dep_wait}
 use Rattle.wb_states.specs.Record.{IsWellFormed}
 use Rattle.deb_text.specs.Text.{is_empty_text}
 use Rattle.wb_states.specs.Moves.{may_go, note_after, move_refusal, value_refusal, record_after_move, move_outcome}
-use Rattle.wb_states.specs.Table.{row_of}
+use Rattle.wb_states.specs.MoveTable.{row_of}
 
 -- ---- a move that is not refused
 

@@ -5,6 +5,7 @@ pub mod Holds
 pub mod Limits
 pub mod Lookups
 pub mod Machine
+pub mod MoveTable
 pub mod Moves
 pub mod Names
 pub mod Queries
@@ -14,4 +15,3 @@ pub mod Refusals
 pub mod State
 pub mod StoreFaults
 pub mod Subject
-pub mod Table

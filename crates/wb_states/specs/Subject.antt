@@ -3,8 +3,8 @@ use Rattle.std.specs.Prelude.{ℕ, List}
 use Rattle.wb_states.specs.declared.command.Command.{Command}
 use Rattle.wb_states.specs.declared.command.Command.TheVariants as of
 use Rattle.wb_states.specs.declared.command.Next.{Next}
-use Rattle.wb_states.specs.declared.subject.Names.{Names}
-use Rattle.wb_states.specs.declared.subject.Names.TheVariants as names
+use Rattle.wb_states.specs.declared.subject.Subject.{Subject as Named}
+use Rattle.wb_states.specs.declared.subject.Subject.TheVariants as named
 
 -- what a command names
 pub data Subject : Type 0 where
@@ -39,8 +39,8 @@ subject_of (of.Merge fields) = Nothing
 subject_of (of.Report fields) = Nothing
 
 -- the records that are named, in a program by what it refers to
-abbrev pub subject_named : Names → Subject
-subject_named names.Nothing = Nothing
-subject_named (names.Source arch source) = Source arch.now source.now
-subject_named (names.Taken take_number) = Taken take_number
-subject_named (names.Next next) = Head next.now
+abbrev pub subject_named : Named → Subject
+subject_named named.Nothing = Nothing
+subject_named (named.Source arch source) = Source arch.now source.now
+subject_named (named.Taken take_number) = Taken take_number
+subject_named (named.Head next) = Head next.now

@@ -30,7 +30,7 @@ ghost use Rattle.wb_states.specs.Record.{IsWellFormed};
 ghost use Rattle.wb_states.specs.Refusals.{code_of_refusal, name_of_refusal};
 ghost use Rattle.wb_states.specs.Lookups.{counts_of, rows_in, rows_of, total_of};
 ghost use Rattle.wb_states.specs.State.{code_of, is_held, name_of, states};
-ghost use Rattle.wb_states.specs.Table.{HasForm, row_of};
+ghost use Rattle.wb_states.specs.MoveTable.{HasForm, row_of};
 
 /// The queue of an architecture has each of its records that wait for a builder, and no other, and they
 /// ascend strictly, so that each stands once.

@@ -35,4 +35,4 @@ pub use reply::{Assignment, MergeCounts, PartEnd, PartReply, Reply};
 pub use scratch::{BinaryRow, SourceRow};
 pub use state::State;
 pub use store_fault::{StoreFault, Table};
-pub use subject::Names;
+pub use subject::Subject;

@@ -7,7 +7,7 @@ use deb_text::Text;
 
 /// The records that a command names: what has to be looked up before it can be carried out.
 #[derive(Debug, Drop)]
-pub enum Names<'a> {
+pub enum Subject<'a> {
     /// None by itself: the command adds an architecture or a builder, or its lists or its report name them.
     Nothing,
     /// That of a source package: the architecture and the source package.
@@ -15,32 +15,32 @@ pub enum Names<'a> {
     /// The one that is held under a take number.
     Taken(u64),
     /// The head of a queue, and what a builder that asks again holds.
-    Next(&'a command::Next),
+    Head(&'a command::Next),
 }
 
 impl Command {
     /// The records that the command names. Takes no memory.
-    pub fn names(&self) -> Names<'_>
+    pub fn names(&self) -> Subject<'_>
         ensures value { subject_named result ≡ subject_of self.now }
     {
         match self {
             Command::AddArch(_) | Command::AddBuilder(_) | Command::Merge(_) | Command::Report(_) =>
-                Names::Nothing,
-            Command::Enter(enter) => Names::Source(&enter.arch, &enter.source),
-            Command::Next(next) => Names::Next(next),
-            Command::Take(take) => Names::Source(&take.arch, &take.source),
+                Subject::Nothing,
+            Command::Enter(enter) => Subject::Source(&enter.arch, &enter.source),
+            Command::Next(next) => Subject::Head(next),
+            Command::Take(take) => Subject::Source(&take.arch, &take.source),
             Command::Built(held) | Command::Uploaded(held) | Command::PutBack(held) => {
-                Names::Taken(held.take_number)
+                Subject::Taken(held.take_number)
             }
-            Command::Waits(waits) => Names::Taken(waits.take_number),
-            Command::Attempted(attempted) => Names::Taken(attempted.take_number),
-            Command::GiveBack(back) => Names::Source(&back.arch, &back.source),
-            Command::DepWait(waits) => Names::Source(&waits.arch, &waits.source),
+            Command::Waits(waits) => Subject::Taken(waits.take_number),
+            Command::Attempted(attempted) => Subject::Taken(attempted.take_number),
+            Command::GiveBack(back) => Subject::Source(&back.arch, &back.source),
+            Command::DepWait(waits) => Subject::Source(&waits.arch, &waits.source),
             Command::Fail(aside) | Command::NotForUs(aside) => {
-                Names::Source(&aside.arch, &aside.source)
+                Subject::Source(&aside.arch, &aside.source)
             }
-            Command::Rebuild(rebuild) => Names::Source(&rebuild.arch, &rebuild.source),
-            Command::BuildPriority(priority) => Names::Source(&priority.arch, &priority.source),
+            Command::Rebuild(rebuild) => Subject::Source(&rebuild.arch, &rebuild.source),
+            Command::BuildPriority(priority) => Subject::Source(&priority.arch, &priority.source),
         }
     }
 }

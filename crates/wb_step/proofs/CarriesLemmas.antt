@@ -7,7 +7,7 @@ use Rattle.wb_states.specs.declared.refusal.Refusal.TheVariants.{Memory}
 use Rattle.wb_states.specs.declared.reply.Reply.{Reply}
 use Rattle.wb_states.specs.Machine.{Machine}
 use Rattle.wb_states.specs.Refusals.{IsOfMachine}
-use Rattle.wb_step.specs.Carries.{Carries, Reaches}
+use Rattle.wb_step.specs.Carries.{Carries, HasOutcome}
 use Rattle.wb_step.specs.Checks.{MayWantMemory}
 use Rattle.wb_step.specs.Step.{Outcome, step}
 use Rattle.wb_step.proofs.WantLemmas.{wanted}
@@ -16,13 +16,13 @@ use Rattle.wb_step.proofs.WantLemmas.{wanted}
 
 -- a check refuses
 pub reaches-refused : {machine : Machine} {outcome : Outcome} {refusal : Refusal} → outcome ≡ (Err refusal, machine)
-    → Reaches machine machine outcome (Err refusal)
+    → HasOutcome machine machine outcome (Err refusal)
 reaches-refused is = record { reply = tt; refused = λ _. is; unchanged = refl }
 
 -- a callee refuses, and `?` gives its refusal back
 pub reaches-returned : {machine : Machine} {outcome : Outcome} {refusal : Refusal} (result : Result Reply Refusal)
     → IsErrAnd result (λ returned. returned ≡ refusal) → (IsOfMachine refusal → outcome ≡ (Err refusal, machine))
-    → Reaches machine machine outcome result
+    → HasOutcome machine machine outcome result
 reaches-returned (Ok reply) same is = absurd same
 reaches-returned {machine = machine} (Err returned) same is = record {
   reply = tt;
@@ -32,14 +32,14 @@ reaches-returned {machine = machine} (Err returned) same is = record {
 
 -- a text or a record cannot be copied, and `?` gives that back
 pub reaches-memory : {machine : Machine} {outcome : Outcome} (result : Result Reply Refusal)
-    → IsErrAnd result (λ returned. returned ≡ Memory) → Reaches machine machine outcome result
+    → IsErrAnd result (λ returned. returned ≡ Memory) → HasOutcome machine machine outcome result
 reaches-memory (Ok reply) none = absurd none
 reaches-memory (Err returned) none = record { reply = tt; refused = λ differs. absurd (differs none); unchanged = refl }
 
 -- the last call writes the outcome, or memory runs out and it writes nothing
 pub reaches-kept : {old new : Machine} {outcome : Outcome} {result : Result Reply Refusal}
     → IfOk result (λ reply. outcome ≡ (Ok reply, new)) → IfErr result (λ refusal. refusal ≡ Memory) → OnErr result (new ≡ old)
-    → Reaches old new outcome result
+    → HasOutcome old new outcome result
 reaches-kept {result = result} reply none unchanged = record {
   reply = reply;
   refused = IfErr-weaker result _ _ (λ _ is differs. absurd (differs is)) none;
@@ -82,7 +82,7 @@ carries-failed (Err returned) none unchanged known =
 
 -- the last call reaches the command's step
 pub carries-reached : {old new : Machine} {command : Command} {outcome : Outcome} {result : Result Reply Refusal}
-    → Reaches old new outcome result → step old command ≡ outcome → MayWantMemory command → Carries old new command result
+    → HasOutcome old new outcome result → step old command ≡ outcome → MayWantMemory command → Carries old new command result
 carries-reached {result = result} reached is known = record {
   reply = IfOk-weaker result _ _ (λ _ done. is ∙ done) reached.reply;
   refused = IfErr-weaker result _ _ (λ _ refused of_machine. is ∙ refused of_machine) reached.refused;

@@ -14,7 +14,7 @@ use Rattle.wb_states.specs.Moves.{record_after_move, move_outcome, move_refusal}
 use Rattle.wb_states.specs.Names.{is_builder_name}
 use Rattle.wb_states.specs.Record.{IsWellFormed}
 use Rattle.deb_text.specs.Text.{IsTextWithin}
-use Rattle.wb_states.specs.Table.{HasForm}
+use Rattle.wb_states.specs.MoveTable.{HasForm}
 use Rattle.wb_states.proofs.MoveFormLemmas.{move_outcome-well}
 
 -- what a move brings has its form: a builder that may build for the architecture, the next take number, which is the last one given afterwards, relations that were read, or a text

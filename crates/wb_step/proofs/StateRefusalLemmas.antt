@@ -27,7 +27,7 @@ use Rattle.wb_states.specs.Moves.{may_go, move_refusal, value_refusal, waits_for
 use Rattle.wb_states.specs.Queue.{Entry}
 use Rattle.wb_states.specs.Refusals.{IsOfMachine, is_of_store}
 use Rattle.wb_merge.specs.Listing.{listing_in, listing_of}
-use Rattle.wb_merge.specs.Rows.{BinaryRow, SourceRow, binary_paragraph, binary_rows, onto_rows, refused_at, rows_behind, source_paragraph, source_rows}
+use Rattle.wb_merge.specs.Rows.{BinaryParagraph, SourceParagraph, binary_paragraph, binary_rows, onto_rows, refused_at, rows_behind, source_paragraph, source_rows}
 use Rattle.deb_control.specs.Lines.{lines_of, paragraphs_in}
 use Rattle.wb_merge.specs.Report.{first_bad_line, lines_in}
 use Rattle.wb_step.specs.Arguments.{Import, Lists, Lines, arguments_of}
@@ -127,7 +127,7 @@ binaries-state : (text : List ℕ) → Reads (binary_rows text)
 unfolding binary_rows
 binaries-state text = rows-state binary_paragraph Packages 0 (paragraphs_in (lines_of text))
 
-in-state : (arch : ArchWords) (sources : Result (List SourceRow) Refusal) (packages : Result (List BinaryRow) Refusal) → Reads sources → Reads packages → Reads (listing_in arch sources packages)
+in-state : (arch : ArchWords) (sources : Result (List SourceParagraph) Refusal) (packages : Result (List BinaryParagraph) Refusal) → Reads sources → Reads packages → Reads (listing_in arch sources packages)
 in-state arch (Err refusal) packages one other = one
 in-state arch (Ok rows) (Err refusal) one other = other
 in-state arch (Ok rows) (Ok others) one other = tt

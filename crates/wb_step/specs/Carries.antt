@@ -10,7 +10,7 @@ use Rattle.wb_step.specs.Checks.{MayWantMemory}
 use Rattle.wb_step.specs.Step.{Outcome, step}
 
 -- a part of a command comes to an outcome, or memory runs out and nothing changes
-pub record Reaches (old new : Machine) (outcome : Outcome) (result : Result Reply Refusal) : Type 0 where
+pub record HasOutcome (old new : Machine) (outcome : Outcome) (result : Result Reply Refusal) : Type 0 where
   -- what is accepted has the reply of the outcome, and leaves its state
   pub reply : IfOk result (λ reply. outcome ≡ (Ok reply, new))
   -- a refusal other than out of memory is that of the outcome, whose state is the old one

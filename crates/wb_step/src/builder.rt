@@ -9,7 +9,7 @@ ghost use Rattle.wb_states.specs.Limits.{count_limit};
 ghost use Rattle.wb_states.specs.Moves.{move_refusal, record_after_move};
 ghost use Rattle.wb_states.specs.Refusals.{IsOfMachine};
 ghost use Rattle.wb_states.specs.Lookups.{entry_of};
-ghost use Rattle.wb_step.specs.Carries.{Carries, Reaches};
+ghost use Rattle.wb_step.specs.Carries.{Carries, HasOutcome};
 ghost use Rattle.wb_step.specs.Checks.{builder_refusal};
 ghost use Rattle.wb_step.specs.Outcomes.{head_step, assignment_step, take_move, take_step};
 ghost use Rattle.wb_step.specs.Step.{assignment_of};
@@ -196,7 +196,7 @@ fn next_head(
     arch: &Text,
     builder: &Text,
 ) -> Result<Reply, Refusal>
-    ensures reaches { Reaches office.old office.new
+    ensures reaches { HasOutcome office.old office.new
         (head_step office.old arch.now builder.now) result }
 {
     let found = office.head(arch);
@@ -246,7 +246,7 @@ fn take_by_name(
     source: &Text,
     version: &Version,
 ) -> Result<Reply, Refusal>
-    ensures reaches { Reaches office.old office.new
+    ensures reaches { HasOutcome office.old office.new
         (take_step office.old arch.now builder.now source.now version.now) result }
 {
     check_builds(office, arch, builder)?;

@@ -28,6 +28,10 @@ pub trait CarryOut {
     // The office is closed, since its store failed with this fault, and a crash leaves one of these two states.
     ghost leaves: { Self → Machine → Machine → StoreFault → Type 0 };
 
+    // The store of the office cannot be used on: it failed at a call that does nothing, or at the one that was to take a
+    // transaction back.
+    ghost cannot_go_on: { Self → Type 0 };
+
     /// How many commands were accepted. Takes no memory (this project's own).
     fn accepted_count(&self) -> u64
         ensures value { (machine : Machine) → is_clean self.now → stands_at self.now machine
@@ -42,9 +46,9 @@ pub trait CarryOut {
     ///
     /// The refusal is the first that is true of the command in the order of [`Refusal`], and the office is then as it
     /// was. `Memory` comes if there is no memory for it, and for no command that a check of its texts refuses without
-    /// memory; the office is then as it was, but may be closed. `Store` comes if the store failed, and only once the texts
-    /// were tested: the office is closed, and a crash leaves the state before the command or the state after it, whole.
-    /// A closed office, and no other, answers `Closed` to each command (this project's own).
+    /// memory; the office is then as it was, and is closed only if its store cannot be used on. `Store` comes if the store
+    /// failed, and only once the texts were tested: the office is closed, and a crash leaves the state before the command
+    /// or the state after it, whole. A closed office, and no other, answers `Closed` to each command (this project's own).
     fn carry_out(&mut self, command: &Command) -> Result<Reply, Refusal>
         // whatever the store gives back
         ensures shut { is_closed self.old → (result ≡ Err Closed) × is_closed self.new }
@@ -60,6 +64,8 @@ pub trait CarryOut {
             → ((step machine command.now).0 ≡ Err refusal) × stands_at self.new machine) }
         ensures memory { (machine : Machine) → is_clean self.new → stands_at self.old machine
             → result ≡ Err Memory → MayWantMemory command.now × stands_at self.new machine }
+        ensures cause { (machine : Machine) → is_clean self.new → stands_at self.old machine → ¬ is_closed self.old
+            → result ≡ Err Memory → is_closed self.new → cannot_go_on self.new }
         ensures closed { (machine : Machine) → is_clean self.new → stands_at self.old machine
             → result ≡ Err Closed → is_closed self.new × stands_at self.new machine }
         ensures store { (machine : Machine) → is_clean self.new → stands_at self.old machine → (fault : StoreFault)
@@ -89,6 +95,8 @@ pub trait CarryOut {
         ensures memory { (machine : Machine) → is_clean self.new → stands_at self.old machine
             → result ≡ Err Memory
             → (has_malformed_name query.now ≡ false) × stands_at self.new machine }
+        ensures cause { (machine : Machine) → is_clean self.new → stands_at self.old machine → ¬ is_closed self.old
+            → result ≡ Err Memory → is_closed self.new → cannot_go_on self.new }
         ensures closed { (machine : Machine) → is_clean self.new → stands_at self.old machine
             → result ≡ Err Closed → is_closed self.new × stands_at self.new machine }
         ensures store { (machine : Machine) → is_clean self.new → stands_at self.old machine → (fault : StoreFault)

@@ -4,7 +4,7 @@ ghost use Rattle.std.specs.Str.{IsUtf8};
 ghost use Rattle.wb_states.specs.declared.command.Command.TheVariants as of;
 ghost use Rattle.wb_states.specs.declared.moves.Move.TheVariants as to;
 ghost use Rattle.wb_states.specs.Machine.{arch_words};
-ghost use Rattle.wb_step.specs.Carries.{Carries, Reaches};
+ghost use Rattle.wb_step.specs.Carries.{Carries, HasOutcome};
 ghost use Rattle.wb_step.specs.Outcomes.{taken_step};
 
 use crate::OfficePart;
@@ -22,7 +22,7 @@ pub(crate) fn move_taken(
     take_number: u64,
     change: Move,
 ) -> Result<Reply, Refusal>
-    ensures reaches { Reaches office.old office.new
+    ensures reaches { HasOutcome office.old office.new
         (taken_step office.old take_number (λ _. change)) result }
 {
     let found = office.by_take(take_number);
@@ -70,7 +70,7 @@ fn wait_taken(
     take_number: u64,
     relations: Relations,
 ) -> Result<Reply, Refusal>
-    ensures reaches { Reaches office.old office.new (taken_step office.old take_number
+    ensures reaches { HasOutcome office.old office.new (taken_step office.old take_number
         (λ entry. to.Waits relations (arch_words office.old entry.0.0))) result }
 {
     let found = office.by_take(take_number);

@@ -4,7 +4,7 @@ ghost use Rattle.std.specs.Str.{IsUtf8};
 ghost use Rattle.wb_states.specs.declared.command.Command.TheVariants as of;
 ghost use Rattle.wb_states.specs.declared.refusal.Refusal.TheVariants.{Memory};
 ghost use Rattle.wb_states.specs.Refusals.{IsOfMachine};
-ghost use Rattle.wb_step.specs.Carries.{Carries, Reaches};
+ghost use Rattle.wb_step.specs.Carries.{Carries, HasOutcome};
 ghost use Rattle.wb_step.specs.Checks.{aside_refusal};
 ghost use Rattle.wb_step.specs.Outcomes.{named_step};
 
@@ -26,7 +26,7 @@ fn move_named(
     version: &Version,
     change: Move,
 ) -> Result<Reply, Refusal>
-    ensures reaches { Reaches office.old office.new
+    ensures reaches { HasOutcome office.old office.new
         (named_step office.old arch.now source.now version.now change) result }
 {
     let current = find_known(alloc, office, arch, source, version)?;

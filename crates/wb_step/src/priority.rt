@@ -1,7 +1,7 @@
 //! The command by which operators say which source packages are built first.
 ghost use Rattle.std.specs.Prelude.{◌≡◌, IfOk};
 ghost use Rattle.wb_states.specs.declared.command.Command.TheVariants as of;
-ghost use Rattle.wb_step.specs.Carries.{Carries, Reaches};
+ghost use Rattle.wb_step.specs.Carries.{Carries, HasOutcome};
 ghost use Rattle.wb_step.specs.Outcomes.{prioritized_step};
 
 use crate::OfficePart;
@@ -45,7 +45,7 @@ fn prioritize(
     version: &Version,
     build_priority: i16,
 ) -> Result<Reply, Refusal>
-    ensures reaches { Reaches office.old office.new
+    ensures reaches { HasOutcome office.old office.new
         (prioritized_step office.old arch.now source.now version.now build_priority) result }
 {
     let current = find_known(alloc, office, arch, source, version)?;

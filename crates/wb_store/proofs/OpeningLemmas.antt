@@ -91,13 +91,13 @@ records_there : (format : Format) {schema : Schema} → HasIn format schema → 
 records_there One has = has.tables.states_are.has
 records_there Two has = has.record_is
 
-counts_of : (format : Format) (machine : Machine) (db : Database) → StandsIn format machine db → HasCountsOf format machine db
-counts_of One machine db stands = stands.counts
-counts_of Two machine db stands = stands.counts
+counts_kept : (format : Format) (machine : Machine) (db : Database) → StandsIn format machine db → HasCountsOf format machine db
+counts_kept One machine db stands = stands.counts
+counts_kept Two machine db stands = stands.counts
 
-archs_of : (format : Format) (machine : Machine) (db : Database) → StandsIn format machine db → HasArchsOf machine db
-archs_of One machine db stands = stands.archs
-archs_of Two machine db stands = stands.archs
+archs_kept : (format : Format) (machine : Machine) (db : Database) → StandsIn format machine db → HasArchsOf machine db
+archs_kept One machine db stands = stands.archs
+archs_kept Two machine db stands = stands.archs
 
 builders_of : (format : Format) (machine : Machine) (db : Database) → StandsIn format machine db → HasBuildersOf machine db
 builders_of One machine db stands = stands.builders
@@ -139,13 +139,13 @@ module _ {S : Type 0} {g : Ghosts S} (format : Format) {old new : Held S} where
   pub counts_tested : {A : Type 0} {Given : Machine → Type 0} {Good : List Row → A → Type 0} {Bad : List Row → StoreFault → Type 0} {Outcome : Machine → A → Type 0} (r : Result A StoreFault)
       → Tests g ask.Office Good Bad old new r → PassesWith g ask.Office (HasCountsOf format) Given Outcome old new r
       → ChecksOver g (HasIn format) (StandsIn format) Given (λ db x. ShowsGood ask.Office db (λ rows. Good rows x)) Outcome (FailsToTest ask.Office Bad) old new r
-  counts_tested = tested (office_there format) (λ machine stands. counts_of format machine _ stands)
+  counts_tested = tested (office_there format) (λ machine stands. counts_kept format machine _ stands)
 
   -- and of the architectures
   pub archs_tested : {A : Type 0} {Given : Machine → Type 0} {Good : List Row → A → Type 0} {Bad : List Row → StoreFault → Type 0} {Outcome : Machine → A → Type 0} (r : Result A StoreFault)
       → Tests g ask.Archs Good Bad old new r → PassesWith g ask.Archs HasArchsOf Given Outcome old new r
       → ChecksOver g (HasIn format) (StandsIn format) Given (λ db x. ShowsGood ask.Archs db (λ rows. Good rows x)) Outcome (FailsToTest ask.Archs Bad) old new r
-  archs_tested = tested (archs_there format) (λ machine stands. archs_of format machine _ stands)
+  archs_tested = tested (archs_there format) (λ machine stands. archs_kept format machine _ stands)
 
   -- with other words for the architectures
   pub builders_tested : {X : Type 0} {given archs : List (List ℕ × OsCpu)} → given ≡ archs → (r : Result (Vec Key X) StoreFault)

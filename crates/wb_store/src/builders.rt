@@ -46,12 +46,12 @@ impl<S: Alter + Drop> Store<S> {
             statements::builder_pairs(),
             params![builder.as_str()],
         )?;
-        archs_in(rows)
+        arch_names_in(rows)
     }
 }
 
 /// The architectures in these rows of builders. The table is damaged if a row is no builder.
-fn archs_in(rows: Vec<Row>) -> Result<Vec<Text>, StoreFault>
+fn arch_names_in(rows: Vec<Row>) -> Result<Vec<Text>, StoreFault>
     ensures value { IfOk result (λ made. HaveArchs rows.items made.items) }
     ensures err { IfErr result (IsUnfit Builder (ArePairs rows.items)) }
 {

@@ -21,7 +21,7 @@ impl<S: Alter + Drop> Store<S> {
             counts ≡ counts_of machine arch.now) self.old self.new result }
     {
         let states = states_of(&mut self.conn, arch)?;
-        Ok(counts_in(&states))
+        Ok(state_counts_in(&states))
     }
 }
 
@@ -40,7 +40,7 @@ fn states_of<S: Alter>(conn: &mut Connection<S>, arch: &Text) -> Result<Vec<Stat
 }
 
 /// How many of these states of records are each state.
-fn counts_in(states: &[State]) -> StateCounts
+fn state_counts_in(states: &[State]) -> StateCounts
     ensures value { (machine : Machine) (arch : List ℕ)
         → IsPermutation (each (λ entry. entry.1.state) (rows_of machine arch)) states.now
         → result ≡ counts_of machine arch }

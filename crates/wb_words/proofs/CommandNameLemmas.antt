@@ -6,7 +6,7 @@ use Rattle.std.specs.Option.{option_or}
 use Rattle.clap.specs.Words.{Row, Text}
 use Rattle.wb_states.specs.Commands.{name_of_command}
 use Rattle.wb_states.specs.declared.command.Command.{Command}
-use Rattle.wb_words.specs.Arguments.{word_of, number_of, integer_of, optional_number_of, subject_of}
+use Rattle.wb_words.specs.Arguments.{word_of, number_of, integer_of, optional_number_of, named_source_of}
 use Rattle.wb_words.specs.Words.{add_arch_of, add_builder_of, enter_of, give_back_of, dep_wait_of, fail_of, not_for_us_of, rebuild_of, build_priority_of, next_of, take_of, built_of, uploaded_of, put_back_of, waits_of, attempted_of, operator_command, builder_command, command_named}
 
 -- what may be there is a command of this name
@@ -41,31 +41,31 @@ add_builder_of-named rows = behind-named _ _ (λ _. mapped-named _ _ (λ _. refl
 
 enter_of-named : (rows : List Row) → IsNamed (codes "enter") (enter_of rows)
 unfolding enter_of
-enter_of-named rows = behind-named _ _ (λ _. behind-named _ _ (λ _. mapped-named _ _ (λ _. refl) (word_of (codes "section") rows)) (word_of (codes "priority") rows)) (subject_of rows)
+enter_of-named rows = behind-named _ _ (λ _. behind-named _ _ (λ _. mapped-named _ _ (λ _. refl) (word_of (codes "section") rows)) (word_of (codes "priority") rows)) (named_source_of rows)
 
 give_back_of-named : (rows : List Row) → IsNamed (codes "give-back") (give_back_of rows)
 unfolding give_back_of
-give_back_of-named rows = mapped-named _ _ (λ _. refl) (subject_of rows)
+give_back_of-named rows = mapped-named _ _ (λ _. refl) (named_source_of rows)
 
 dep_wait_of-named : (rows : List Row) → IsNamed (codes "dep-wait") (dep_wait_of rows)
 unfolding dep_wait_of
-dep_wait_of-named rows = mapped-named _ _ (λ _. refl) (subject_of rows)
+dep_wait_of-named rows = mapped-named _ _ (λ _. refl) (named_source_of rows)
 
 fail_of-named : (rows : List Row) → IsNamed (codes "fail") (fail_of rows)
 unfolding fail_of
-fail_of-named rows = mapped-named _ _ (λ _. refl) (subject_of rows)
+fail_of-named rows = mapped-named _ _ (λ _. refl) (named_source_of rows)
 
 not_for_us_of-named : (rows : List Row) → IsNamed (codes "not-for-us") (not_for_us_of rows)
 unfolding not_for_us_of
-not_for_us_of-named rows = mapped-named _ _ (λ _. refl) (subject_of rows)
+not_for_us_of-named rows = mapped-named _ _ (λ _. refl) (named_source_of rows)
 
 rebuild_of-named : (rows : List Row) → IsNamed (codes "rebuild") (rebuild_of rows)
 unfolding rebuild_of
-rebuild_of-named rows = behind-named _ _ (λ _. mapped-named _ _ (λ _. refl) (number_of (codes "number") rows)) (subject_of rows)
+rebuild_of-named rows = behind-named _ _ (λ _. mapped-named _ _ (λ _. refl) (number_of (codes "number") rows)) (named_source_of rows)
 
 build_priority_of-named : (rows : List Row) → IsNamed (codes "build-priority") (build_priority_of rows)
 unfolding build_priority_of
-build_priority_of-named rows = behind-named _ _ (λ _. mapped-named _ _ (λ _. refl) (integer_of (codes "value") rows)) (subject_of rows)
+build_priority_of-named rows = behind-named _ _ (λ _. mapped-named _ _ (λ _. refl) (integer_of (codes "value") rows)) (named_source_of rows)
 
 next_of-named : (rows : List Row) → IsNamed (codes "next") (next_of rows)
 unfolding next_of
@@ -73,7 +73,7 @@ next_of-named rows = behind-named _ _ (λ _. behind-named _ _ (λ _. mapped-name
 
 take_of-named : (rows : List Row) → IsNamed (codes "take") (take_of rows)
 unfolding take_of
-take_of-named rows = behind-named _ _ (λ _. mapped-named _ _ (λ _. refl) (word_of (codes "builder") rows)) (subject_of rows)
+take_of-named rows = behind-named _ _ (λ _. mapped-named _ _ (λ _. refl) (word_of (codes "builder") rows)) (named_source_of rows)
 
 built_of-named : (rows : List Row) → IsNamed (codes "built") (built_of rows)
 unfolding built_of

@@ -6,7 +6,7 @@ use Rattle.std.specs.Str.Parse.{digits_value, signed_digits_value, without_leadi
 use Rattle.clap.specs.Words.{Row, Text, all_of, first_of}
 use Rattle.clap.specs.ValueTests.{is_signed_in, is_unsigned_in}
 use Rattle.deb_text.specs.Options.{all_some}
-use Rattle.wb_words.specs.declared.argument.Subject.{Subject}
+use Rattle.wb_words.specs.declared.argument.NamedSource.{NamedSource}
 use Rattle.wb_words.specs.declared.words.PartNames.{PartNames}
 
 -- ---- words and numbers
@@ -67,8 +67,8 @@ unfoldable pub integer_of : Text → List Row → Option ℤ
 integer_of id rows = option_and_then integer_in (word_of id rows)
 
 -- the source package that the arguments name
-unfoldable pub subject_of : List Row → Option Subject
-subject_of rows = option_and_then (λ arch. option_and_then (λ source. option_map (λ version.
+unfoldable pub named_source_of : List Row → Option NamedSource
+named_source_of rows = option_and_then (λ arch. option_and_then (λ source. option_map (λ version.
     record { arch = arch; source = source; version = version })
     (word_of (codes "version") rows)) (word_of (codes "source") rows))
     (word_of (codes "arch") rows)

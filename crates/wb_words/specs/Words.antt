@@ -12,7 +12,7 @@ use Rattle.wb_states.specs.Forms.{Enter, Fail, GiveBack, Next, NotForUs}
 use Rattle.wb_states.specs.Forms.{PutBack, Rebuild, Take, Uploaded, Waits}
 use Rattle.wb_states.specs.declared.query.Query.{Query}
 use Rattle.wb_states.specs.declared.query.Query.TheVariants as query
-use Rattle.wb_words.specs.Arguments.{integer_of, number_of, optional_number_of, parts_of, subject_of, word_of}
+use Rattle.wb_words.specs.Arguments.{integer_of, number_of, optional_number_of, parts_of, named_source_of, word_of}
 use Rattle.wb_words.specs.Arguments.{words_of}
 use Rattle.wb_words.specs.Usages.{wb_app}
 use Rattle.wb_words.specs.declared.words.Invocation.{Invocation}
@@ -35,39 +35,39 @@ add_builder_of rows = option_and_then (λ name. option_map (λ arch. AddBuilder 
 unfoldable pub enter_of : List Row → Option Command
 enter_of rows = option_and_then (λ subject. option_and_then (λ priority. option_map (λ section.
     Enter subject.arch subject.source subject.version priority section)
-    (word_of (codes "section") rows)) (word_of (codes "priority") rows)) (subject_of rows)
+    (word_of (codes "section") rows)) (word_of (codes "priority") rows)) (named_source_of rows)
 
 -- to put a source package back
 unfoldable pub give_back_of : List Row → Option Command
 give_back_of rows = option_map (λ subject.
-    GiveBack subject.arch subject.source subject.version) (subject_of rows)
+    GiveBack subject.arch subject.source subject.version) (named_source_of rows)
 
 -- to let a source package wait
 unfoldable pub dep_wait_of : List Row → Option Command
 dep_wait_of rows = option_map (λ subject. DepWait subject.arch subject.source subject.version
-    (words_of (codes "relations") rows)) (subject_of rows)
+    (words_of (codes "relations") rows)) (named_source_of rows)
 
 -- to say that a build failed
 unfoldable pub fail_of : List Row → Option Command
 fail_of rows = option_map (λ subject. Fail subject.arch subject.source subject.version
-    (words_of (codes "note") rows)) (subject_of rows)
+    (words_of (codes "note") rows)) (named_source_of rows)
 
 -- to say that a source package is not to be built
 unfoldable pub not_for_us_of : List Row → Option Command
 not_for_us_of rows = option_map (λ subject. NotForUs subject.arch subject.source subject.version
-    (words_of (codes "note") rows)) (subject_of rows)
+    (words_of (codes "note") rows)) (named_source_of rows)
 
 -- to build once more
 unfoldable pub rebuild_of : List Row → Option Command
 rebuild_of rows = option_and_then (λ subject. option_map (λ number.
     Rebuild subject.arch subject.source subject.version number
-    (words_of (codes "message") rows)) (number_of (codes "number") rows)) (subject_of rows)
+    (words_of (codes "message") rows)) (number_of (codes "number") rows)) (named_source_of rows)
 
 -- to give a source package another build priority
 unfoldable pub build_priority_of : List Row → Option Command
 build_priority_of rows = option_and_then (λ subject. option_map (λ value.
     BuildPriority subject.arch subject.source subject.version value)
-    (integer_of (codes "value") rows)) (subject_of rows)
+    (integer_of (codes "value") rows)) (named_source_of rows)
 
 -- the operator's command of this name with these arguments
 unfoldable pub operator_command : Text → List Row → Option Command
@@ -94,7 +94,7 @@ next_of rows = option_and_then (λ arch. option_and_then (λ builder. option_map
 unfoldable pub take_of : List Row → Option Command
 take_of rows = option_and_then (λ subject. option_map (λ builder.
     Take subject.arch builder subject.source subject.version)
-    (word_of (codes "builder") rows)) (subject_of rows)
+    (word_of (codes "builder") rows)) (named_source_of rows)
 
 -- to say that it was built
 unfoldable pub built_of : List Row → Option Command

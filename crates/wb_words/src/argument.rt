@@ -2,7 +2,7 @@
 ghost use Rattle.std.specs.Prelude.{◌≡◌, map, IfErr, IfOk};
 ghost use Rattle.clap.specs.Words.{found_of, rows_of};
 ghost use Rattle.wb_words.specs.Arguments.{integer_in, integer_of, joined, number_in, number_of};
-ghost use Rattle.wb_words.specs.Arguments.{optional_number_of, subject_of, word_of, words_of};
+ghost use Rattle.wb_words.specs.Arguments.{optional_number_of, named_source_of, word_of, words_of};
 ghost use Rattle.wb_words.specs.Faults.{Reads};
 ghost use Rattle.wb_words.specs.declared.fault.WordsFault.TheVariants.{NoCommand};
 
@@ -13,7 +13,7 @@ use std::alloc::{AllocError, Global};
 
 /// The source package that a command is about.
 #[derive(Debug, Drop)]
-pub struct Subject {
+pub struct NamedSource {
     /// The architecture.
     pub arch: Text,
     /// The name of the source package.
@@ -107,11 +107,14 @@ pub(crate) fn integer(arguments: &ArgMatches<'_>, id: &str) -> Result<i64, Words
 
 /// The source package that the arguments `arch`, `source` and `version` name. The errors are
 /// `NoCommand` if one of them was not given, and `Memory` if there is no memory for the texts.
-#[tactic(auto, unfolding(crate::specs::Arguments::subject_of))]
-pub(crate) fn read_subject(alloc: Global, arguments: &ArgMatches<'_>) -> Result<Subject, WordsFault>
-    ensures value { Reads (subject_of (rows_of (found_of arguments.now))) result }
+#[tactic(auto, unfolding(crate::specs::Arguments::named_source_of))]
+pub(crate) fn read_named_source(
+    alloc: Global,
+    arguments: &ArgMatches<'_>,
+) -> Result<NamedSource, WordsFault>
+    ensures value { Reads (named_source_of (rows_of (found_of arguments.now))) result }
 {
-    Ok(Subject {
+    Ok(NamedSource {
         arch: word(alloc, arguments, "arch")?,
         source: word(alloc, arguments, "source")?,
         version: word(alloc, arguments, "version")?,

@@ -5,7 +5,7 @@ ghost use Rattle.wb_words.specs.Words.{attempted_of, builder_command, built_of, 
 ghost use Rattle.wb_words.specs.Words.{take_of, uploaded_of, waits_of};
 
 use crate::WordsFault;
-use crate::argument::{number, optional_number, read_subject, word, words};
+use crate::argument::{number, optional_number, read_named_source, word, words};
 use crate::usage::ArgumentKind;
 use clap::ArgMatches;
 use std::alloc::Global;
@@ -87,7 +87,7 @@ fn next(alloc: Global, arguments: &ArgMatches<'_>) -> Result<Command, WordsFault
 fn take(alloc: Global, arguments: &ArgMatches<'_>) -> Result<Command, WordsFault>
     ensures value { Reads (take_of (rows_of (found_of arguments.now))) result }
 {
-    let subject = read_subject(alloc, arguments)?;
+    let subject = read_named_source(alloc, arguments)?;
     Ok(Command::Take(command::Take {
         arch: subject.arch,
         builder: word(alloc, arguments, "builder")?,

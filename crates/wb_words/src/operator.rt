@@ -6,7 +6,7 @@ ghost use Rattle.wb_words.specs.Words.{enter_of, fail_of, give_back_of, not_for_
 ghost use Rattle.wb_words.specs.Words.{operator_command, rebuild_of};
 
 use crate::WordsFault;
-use crate::argument::{integer, number, read_subject, word, words};
+use crate::argument::{integer, number, read_named_source, word, words};
 use crate::usage::ArgumentKind;
 use clap::ArgMatches;
 use std::alloc::Global;
@@ -142,7 +142,7 @@ fn add_builder(alloc: Global, arguments: &ArgMatches<'_>) -> Result<Command, Wor
 fn enter(alloc: Global, arguments: &ArgMatches<'_>) -> Result<Command, WordsFault>
     ensures value { Reads (enter_of (rows_of (found_of arguments.now))) result }
 {
-    let subject = read_subject(alloc, arguments)?;
+    let subject = read_named_source(alloc, arguments)?;
     Ok(Command::Enter(command::Enter {
         arch: subject.arch,
         source: subject.source,
@@ -156,7 +156,7 @@ fn enter(alloc: Global, arguments: &ArgMatches<'_>) -> Result<Command, WordsFaul
 fn give_back(alloc: Global, arguments: &ArgMatches<'_>) -> Result<Command, WordsFault>
     ensures value { Reads (give_back_of (rows_of (found_of arguments.now))) result }
 {
-    let subject = read_subject(alloc, arguments)?;
+    let subject = read_named_source(alloc, arguments)?;
     Ok(Command::GiveBack(command::GiveBack {
         arch: subject.arch,
         source: subject.source,
@@ -168,7 +168,7 @@ fn give_back(alloc: Global, arguments: &ArgMatches<'_>) -> Result<Command, Words
 fn dep_wait(alloc: Global, arguments: &ArgMatches<'_>) -> Result<Command, WordsFault>
     ensures value { Reads (dep_wait_of (rows_of (found_of arguments.now))) result }
 {
-    let subject = read_subject(alloc, arguments)?;
+    let subject = read_named_source(alloc, arguments)?;
     Ok(Command::DepWait(command::DepWait {
         arch: subject.arch,
         source: subject.source,
@@ -181,7 +181,7 @@ fn dep_wait(alloc: Global, arguments: &ArgMatches<'_>) -> Result<Command, WordsF
 fn fail(alloc: Global, arguments: &ArgMatches<'_>) -> Result<Command, WordsFault>
     ensures value { Reads (fail_of (rows_of (found_of arguments.now))) result }
 {
-    let subject = read_subject(alloc, arguments)?;
+    let subject = read_named_source(alloc, arguments)?;
     Ok(Command::Fail(command::SetAside {
         arch: subject.arch,
         source: subject.source,
@@ -194,7 +194,7 @@ fn fail(alloc: Global, arguments: &ArgMatches<'_>) -> Result<Command, WordsFault
 fn not_for_us(alloc: Global, arguments: &ArgMatches<'_>) -> Result<Command, WordsFault>
     ensures value { Reads (not_for_us_of (rows_of (found_of arguments.now))) result }
 {
-    let subject = read_subject(alloc, arguments)?;
+    let subject = read_named_source(alloc, arguments)?;
     Ok(Command::NotForUs(command::SetAside {
         arch: subject.arch,
         source: subject.source,
@@ -207,7 +207,7 @@ fn not_for_us(alloc: Global, arguments: &ArgMatches<'_>) -> Result<Command, Word
 fn rebuild(alloc: Global, arguments: &ArgMatches<'_>) -> Result<Command, WordsFault>
     ensures value { Reads (rebuild_of (rows_of (found_of arguments.now))) result }
 {
-    let subject = read_subject(alloc, arguments)?;
+    let subject = read_named_source(alloc, arguments)?;
     Ok(Command::Rebuild(command::Rebuild {
         arch: subject.arch,
         source: subject.source,
@@ -221,7 +221,7 @@ fn rebuild(alloc: Global, arguments: &ArgMatches<'_>) -> Result<Command, WordsFa
 fn build_priority(alloc: Global, arguments: &ArgMatches<'_>) -> Result<Command, WordsFault>
     ensures value { Reads (build_priority_of (rows_of (found_of arguments.now))) result }
 {
-    let subject = read_subject(alloc, arguments)?;
+    let subject = read_named_source(alloc, arguments)?;
     Ok(Command::BuildPriority(command::BuildPriority {
         arch: subject.arch,
         source: subject.source,

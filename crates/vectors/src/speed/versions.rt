@@ -7,15 +7,15 @@ use std::fmt;
 
 /// How many comparisons found the first earlier, equal and later.
 #[derive(Clone, Copy)]
-pub(crate) struct Found {
+pub(crate) struct OrderCounts {
     earlier: u64,
     equal: u64,
     later: u64,
 }
 
-impl fmt::Display for Found {
+impl fmt::Display for OrderCounts {
     fn fmt<W: fmt::Write>(&self, f: &mut fmt::Formatter<W>) -> fmt::Result {
-        let Found {
+        let OrderCounts {
             earlier,
             equal,
             later,
@@ -34,7 +34,7 @@ pub(crate) fn parsed(alloc: Global, text: &str) -> Result<Vec<Version>, VersionF
 }
 
 /// Each version against the one that stands `distance` places after it.
-fn compared(versions: &[Version], distance: usize, mut found: Found) -> Found {
+fn compared(versions: &[Version], distance: usize, mut found: OrderCounts) -> OrderCounts {
     let Some(later) = versions.get(distance..) else {
         return found;
     };
@@ -49,8 +49,8 @@ fn compared(versions: &[Version], distance: usize, mut found: Found) -> Found {
 }
 
 /// Each version against each of the ten that stand after it.
-pub(crate) fn compared_ten_times(versions: &[Version]) -> Found {
-    let mut found = Found {
+pub(crate) fn compared_ten_times(versions: &[Version]) -> OrderCounts {
+    let mut found = OrderCounts {
         earlier: 0,
         equal: 0,
         later: 0,

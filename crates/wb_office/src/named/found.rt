@@ -10,7 +10,7 @@ ghost use Rattle.wb_office.specs.Answers.{AreOf};
 ghost use Rattle.wb_store.specs.Finds.{Finds};
 ghost use Rattle.wb_office.specs.Sought.{HasFound, first_named, others_named};
 
-use crate::named::names::Names;
+use crate::named::names::Subject;
 use deb_text::Text;
 use sqlite::Alter;
 use std::alloc::{AllocError, Global};
@@ -19,7 +19,7 @@ use wb_store::Store;
 
 /// What a command names of an office, as it is known or was found in the tables.
 #[derive(Drop)]
-pub(crate) struct Found {
+pub(crate) struct FoundPart {
     /// The two counts of the office.
     pub(crate) counts: Counts,
     /// All its architectures.
@@ -69,16 +69,16 @@ fn find_source<S: Alter + Drop>(
 /// `Memory`.
 fn find_first<S: Alter + Drop>(
     store: &mut Store<S>,
-    names: &Names<'_>,
+    names: &Subject<'_>,
 ) -> Result<Option<KeyedRecord>, StoreFault>
     ensures finds { Finds S.Store (λ machine row. option_map entry_of row
         ≡ first_named machine names.now) store.old store.new result }
 {
     match *names {
-        Names::Nothing => Ok(None),
-        Names::Source(arch, source) => find_source(store, arch, source),
-        Names::Taken(take_number) => store.by_take(take_number),
-        Names::Next(next) => store.head(&next.arch),
+        Subject::Nothing => Ok(None),
+        Subject::Source(arch, source) => find_source(store, arch, source),
+        Subject::Taken(take_number) => store.by_take(take_number),
+        Subject::Head(next) => store.head(&next.arch),
     }
 }
 
@@ -87,13 +87,13 @@ fn find_first<S: Alter + Drop>(
 fn find_others<S: Alter + Drop>(
     alloc: Global,
     store: &mut Store<S>,
-    names: &Names<'_>,
+    names: &Subject<'_>,
 ) -> Result<Vec<KeyedRecord>, StoreFault>
     ensures finds { Finds S.Store (λ machine rows. each entry_of rows.items
         ≡ others_named machine names.now) store.old store.new result }
 {
     match *names {
-        Names::Next(next) if next.after.is_some() => store.held_by(&next.builder),
+        Subject::Head(next) if next.after.is_some() => store.held_by(&next.builder),
         _ => Ok(Vec::new(alloc)),
     }
 }
@@ -185,15 +185,15 @@ pub(crate) fn find<S: Alter + Drop>(
     counts: Counts,
     archs: Vec<(Text, OsCpu)>,
     command: &Command,
-    names: &Names<'_>,
-) -> Result<Found, StoreFault>
+    names: &Subject<'_>,
+) -> Result<FoundPart, StoreFault>
     ensures finds { Finds S.Store (λ machine found. AreOf counts archs.items machine
         → HasFound machine command.now names.now found) store.old store.new result }
 {
     let first = find_first(store, names)?;
     let others = find_others(alloc, store, names)?;
     let pairs = find_pairs(alloc, store, command)?;
-    Ok(Found {
+    Ok(FoundPart {
         counts,
         archs,
         first,

@@ -7,20 +7,20 @@ ghost use Rattle.wb_office.specs.Sought.{key_named};
 use deb_text::Text;
 use std::alloc::AllocError;
 use wb_states::KeyedRecord;
-pub(crate) use wb_states::Names;
+pub(crate) use wb_states::Subject;
 
 /// The key of the record that is put, if the first record that is named is this one. The only error is that there is
 /// no memory for it.
 pub(crate) fn key_of(
-    names: &Names<'_>,
+    names: &Subject<'_>,
     first: &Option<KeyedRecord>,
 ) -> Result<Option<(Text, Text)>, AllocError>
     ensures value { IfOk result (λ key. key ≡ key_named names.now (option_map entry_of first.now)) }
 {
     match *names {
-        Names::Nothing => Ok(None),
-        Names::Source(arch, source) => Ok(Some((arch.clone()?, source.clone()?))),
-        Names::Taken(_) | Names::Next(_) => match first {
+        Subject::Nothing => Ok(None),
+        Subject::Source(arch, source) => Ok(Some((arch.clone()?, source.clone()?))),
+        Subject::Taken(_) | Subject::Head(_) => match first {
             None => Ok(None),
             Some(row) => Ok(Some((row.arch.clone()?, row.source.clone()?))),
         },

@@ -6,7 +6,7 @@ ghost use Rattle.wb_step.specs.Named.{listed};
 ghost use Rattle.wb_states.specs.Lookups.{entry_of};
 ghost use Rattle.wb_office.specs.Sought.{office_of, with_archs, with_entries, with_entry, with_pairs};
 
-use crate::named::found::Found;
+use crate::named::found::FoundPart;
 use deb_text::Text;
 use std::alloc::Global;
 use wb_states::{KeyedRecord, OsCpu, StoreFault};
@@ -73,7 +73,7 @@ fn add_first(store: &mut OfficePart, first: Option<KeyedRecord>) -> Result<(), S
 
 /// The office that has what was found, and the pairs of the records' holders, and nothing else. The only error is
 /// `Memory`.
-pub(crate) fn part_of(alloc: Global, found: Found) -> Result<OfficePart, StoreFault>
+pub(crate) fn part_of(alloc: Global, found: FoundPart) -> Result<OfficePart, StoreFault>
     ensures value { IfOk result (λ part. part ≡ office_of found) }
     ensures fault { IfErr result (λ fault. fault ≡ Memory) }
 {

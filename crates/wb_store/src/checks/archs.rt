@@ -26,11 +26,11 @@ pub fn check_archs<S: Alter>(conn: &mut Connection<S>) -> Result<Vec<(Text, OsCp
     ensures passes { Passes S.Store ask.Archs HasArchsOf (λ machine archs.
         archs.items ≡ map.entries machine.archs) conn.old conn.new result }
 {
-    archs_in(rows_of(conn, Table::Arch, statements::all_archs(), &[])?)
+    tested_archs(rows_of(conn, Table::Arch, statements::all_archs(), &[])?)
 }
 
 /// The architectures in these rows, or the first that is no architecture with its forms.
-fn archs_in(rows: Vec<Row>) -> Result<Vec<(Text, OsCpu)>, StoreFault>
+fn tested_archs(rows: Vec<Row>) -> Result<Vec<(Text, OsCpu)>, StoreFault>
     ensures value { IfOk result (λ made. HoldsArchs rows.items made.items) }
     ensures err { IfErr result (AreBadRows Arch arch_cells IsFormedArch rows.items) }
 {
@@ -54,7 +54,7 @@ fn arch_in(row: &Row, number: u64) -> Result<(Text, OsCpu), StoreFault>
     let Some((name, words)) = arch_of(row)? else {
         return Err(damaged);
     };
-    if is_formed(&name, &words) {
+    if is_arch_formed(&name, &words) {
         Ok((name, words))
     } else {
         Err(damaged)
@@ -62,7 +62,7 @@ fn arch_in(row: &Row, number: u64) -> Result<(Text, OsCpu), StoreFault>
 }
 
 /// Whether the name of an architecture and its words have their forms.
-fn is_formed(name: &Text, words: &OsCpu) -> bool
+fn is_arch_formed(name: &Text, words: &OsCpu) -> bool
     ensures { IsTrue result ↔ IsArch name.now words.now }
 {
     is_arch(name.as_str()) && is_os_cpu(words.os.as_str()) && is_os_cpu(words.cpu.as_str())

@@ -58,7 +58,7 @@ fn builder_in(row: &Row, number: u64, archs: &[(Text, OsCpu)]) -> Result<(Text, 
     let Some((name, arch)) = builder_of(row)? else {
         return Err(damaged);
     };
-    if is_formed(&name, &arch, archs) {
+    if is_builder_formed(&name, &arch, archs) {
         Ok((name, arch))
     } else {
         Err(damaged)
@@ -66,7 +66,7 @@ fn builder_in(row: &Row, number: u64, archs: &[(Text, OsCpu)]) -> Result<(Text, 
 }
 
 /// Whether the name of a builder has its form, and the architecture is one of these.
-fn is_formed(name: &Text, arch: &Text, archs: &[(Text, OsCpu)]) -> bool
+fn is_builder_formed(name: &Text, arch: &Text, archs: &[(Text, OsCpu)]) -> bool
     ensures { IsTrue result ↔ IsFormedBuilder archs.now (name.now, arch.now) }
 {
     is_builder(name.as_str()) && is_arch(arch.as_str()) && is_known(arch, archs)

@@ -33,11 +33,11 @@ pub fn check_counts<S: Alter>(
         × (counts.accepted ≡ machine.accepted)) conn.old conn.new result }
 {
     let rows = rows_of(conn, Table::Office, statements::office_counts(), &[])?;
-    counts_in(&rows, format)
+    tested_counts(&rows, format)
 }
 
 /// The counts in these rows, or why they are not those of an office of this format.
-fn counts_in(rows: &[Row], wanted: Format) -> Result<Counts, StoreFault>
+fn tested_counts(rows: &[Row], wanted: Format) -> Result<Counts, StoreFault>
     ensures value { IfOk result (λ counts. HoldsCounts wanted rows.now counts) }
     ensures err { IfErr result (λ fault. AreBadCounts wanted rows.now fault) }
 {
@@ -53,7 +53,7 @@ fn counts_in(rows: &[Row], wanted: Format) -> Result<Counts, StoreFault>
     if format != wanted.number() {
         return Err(StoreFault::NotOffice);
     }
-    counts_of(row, wanted)
+    counts_of_row(row, wanted)
 }
 
 /// The format in the row of an office, which has three columns.
@@ -69,7 +69,7 @@ fn format_in(row: &Row) -> Option<u64>
 }
 
 /// The counts in the row of an office of this format.
-fn counts_of(row: &Row, format: Format) -> Result<Counts, StoreFault>
+fn counts_of_row(row: &Row, format: Format) -> Result<Counts, StoreFault>
     requires { HasFormat (number_of format) row.now }
     ensures value { IfOk result (λ counts. IsOfficeRow format row.now counts) }
     ensures err { IfErr result (λ fault. IsDamagedOffice format row.now fault) }

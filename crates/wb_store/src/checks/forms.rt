@@ -33,7 +33,7 @@ pub(super) struct Kept<'a> {
 
 /// Whether the record, which its schema can keep, has its form, beside what the other tables hold. The only error is that
 /// memory ran out.
-pub(super) fn is_formed(read: &KeyedRecord, kept: &Kept<'_>) -> Result<bool, AllocError>
+pub(super) fn is_record_formed(read: &KeyedRecord, kept: &Kept<'_>) -> Result<bool, AllocError>
     requires kept { IsKeptIn kept.now.format read.now.current }
     ensures value { IfOk result (λ is. IsTrue is
         ↔ IsFormedRecord kept.now.format kept.now.archs.now kept.now.builders.now kept.now.handed (entry_of read.now)) }

@@ -10,7 +10,7 @@ ghost use Rattle.wb_store.specs.Stands.{HasRecordsOf};
 ghost use Rattle.wb_store.specs.Checks.{AreBadRecords, AreKept, FitsBeside, HasGoodRecords, HoldsRecords, IsFormedRecord, IsRowOf, IsTestedRow, PassesWith, Tests};
 ghost use Rattle.wb_store.specs.Schemas.{AreKeptIn, cells_in, query_of_records, table_of_records};
 
-use super::forms::{Kept, is_formed};
+use super::forms::{Kept, is_record_formed};
 use crate::fault::fault_of;
 use crate::format::Format;
 use deb_text::Text;
@@ -108,7 +108,7 @@ fn record_in(row: &Row, number: u64, kept: &Kept<'_>) -> Result<KeyedRecord, Sto
     let Some(read) = kept.format.record_in(row)? else {
         return Err(damaged(kept.format, number));
     };
-    if is_formed(&read, kept)? {
+    if is_record_formed(&read, kept)? {
         Ok(read)
     } else {
         Err(damaged(kept.format, number))

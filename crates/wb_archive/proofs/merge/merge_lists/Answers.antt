@@ -4,7 +4,7 @@ use Rattle.wb_states.specs.declared.refusal.ListKind.TheVariants.{Sources}
 use Rattle.wb_states.specs.declared.scratch.SourceRow.{SourceRow}
 use Rattle.wb_merge.specs.Scratch.{source_row_at}
 use Rattle.wb_archive.specs.Fills.{IsFilled, sources_wanted}
-use Rattle.wb_archive.specs.Merges.{archs_of}
+use Rattle.wb_archive.specs.Merges.{archs_of_parts}
 use Rattle.wb_archive.specs.Reads.{IsRefused, sources_at}
 use Rattle.wb_archive.specs.Sources.{AreAllKnown}
 use Rattle.wb_archive.specs.Tables.{Tables, with_records, with_sources}
@@ -16,7 +16,7 @@ returns-clause-value g c = λ at machine clean holds unsaved no_sources no_binar
     let laws = g.met.T.MergeTables in
     let at_parts = laws.clean c.merge_parts.new.tables c.clear_all.new.tables c.in_ok-clear_all.ensures.calls.follows clean in
     let at_fill = laws.clean c.fill_sources.new.tables c.merge_parts.new.tables c.in_ok-replies.ensures.calls.follows at_parts in
-    let archs_is : c.deref-2.result.now ≡ archs_of c.args.parts.items = c.deref-2.ensures.value ∙ c.in_ok-archs.ensures.value ∙ ap archs_of c.deref.ensures.value in
+    let archs_is : c.deref-2.result.now ≡ archs_of_parts c.args.parts.items = c.deref-2.ensures.value ∙ c.in_ok-archs.ensures.value ∙ ap archs_of_parts c.deref.ensures.value in
     let known = subst (λ (archs : List ArchWords). AreAllKnown archs c.args.parts.items) (sym archs_is) (known-all c.args.parts.items) in
     let MayStand = g.R.ReadParagraphs.may_stand_at in
     let reader = g.met.R.ReadParagraphs in

@@ -2,7 +2,7 @@ use Rattle.std.proofs.Common.{◌≡◌, ◌<◌, ◌^◌, ℕ, List, refl, Opti
 use Rattle.std.specs.Prelude.{nat_lt, pos}
 use Rattle.std.proofs.lemmas.Bool.Decides.{nat_tests}
 use Rattle.serde_json.proofs.OnLiterals.{serde_json_on_literals}
-use Rattle.wb_api.specs.Commands.{attempted_in, build_priority_in, dep_wait_in, fail_in, give_back_in, next_in, not_for_us_in, rebuild_in, subject_in, take_in, waits_in}
+use Rattle.wb_api.specs.Commands.{attempted_in, build_priority_in, dep_wait_in, fail_in, give_back_in, next_in, not_for_us_in, rebuild_in, named_source_in, take_in, waits_in}
 use Rattle.wb_api.specs.Commands.{command_in}
 use Rattle.wb_api.specs.declared.route.CommandKind.TheVariants as kind
 use Rattle.wb_journal.specs.Commands.{value_of_command}
@@ -16,13 +16,13 @@ next arch builder (Some n) = refl
 
 priority : (arch source version : List ℕ) (value : ℕ) → value < 2 ^ 63
     → command_in kind.BuildPriority (value_of_command (BuildPriority arch source version (pos value))) ≡ Some (BuildPriority arch source version (pos value))
-unfolding build_priority_in subject_in serde_json_on_literals
+unfolding build_priority_in named_source_in serde_json_on_literals
 priority arch source version value small =
     let fits : nat_lt value (2 ^ 63) ≡ true = grind (arith, nat_tests) in
     rw fits refl
 
 pub returns : goal.returns
-unfolding attempted_in build_priority_in dep_wait_in fail_in give_back_in next_in not_for_us_in rebuild_in subject_in take_in waits_in serde_json_on_literals
+unfolding attempted_in build_priority_in dep_wait_in fail_in give_back_in next_in not_for_us_in rebuild_in named_source_in take_in waits_in serde_json_on_literals
 returns c = record {
   next = next;
   take = λ arch builder source version. refl;

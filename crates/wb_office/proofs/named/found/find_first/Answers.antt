@@ -9,8 +9,8 @@ returns-in-Taken g c = record {
       (λ machine row sound is. is sound ∙ ap (first_named machine) (sym c.in-Taken.is));
 }
 
-pub returns-in-Next : goal.returns-in-Next
-returns-in-Next g c = record {
+pub returns-in-Head : goal.returns-in-Head
+returns-in-Head g c = record {
   finds = finds_weaker c.head.result (finds_looked_up c.head.result c.head.ensures.looks_up)
-      (λ machine row sound is. is sound ∙ ap (first_named machine) (sym c.in-Next.is));
+      (λ machine row sound is. is sound ∙ ap (first_named machine) (sym c.in-Head.is));
 }

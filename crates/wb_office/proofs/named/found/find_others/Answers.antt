@@ -4,12 +4,12 @@ use Rattle.wb_store.proofs.FindsLemmas.{finds_looked_up, finds_weaker}
 use Rattle.wb_office.proofs.SoughtLemmas.{held_again-some}
 use Rattle.wb_office.proofs.named.found.find_others.Goals as goal
 
-pub returns-in-Next : goal.returns-in-Next
-returns-in-Next g c =
-    let next = c.in-Next.next.now in
+pub returns-in-Head : goal.returns-in-Head
+returns-in-Head g c =
+    let next = c.in-Head.next.now in
     record {
       finds = finds_weaker c.held_by.result (finds_looked_up c.held_by.result c.held_by.ensures.looks_up)
           (λ machine rows sound is.
           is ∙ held_again-some machine next.builder next.after (sym c.is_some.ensures ∙ c.if-is_some.true)
-          ∙ ap (others_named machine) (sym c.in-Next.is));
+          ∙ ap (others_named machine) (sym c.in-Head.is));
     }

@@ -12,5 +12,5 @@ returns-in_err-rows_of-clause-passes g c = archs_pass c.from_residual.result (re
 
 pub returns : goal.returns
 returns g c =
-    let tests = tests_rows (asks_in ask.Archs c.all_archs.ensures refl) c.archs_in.result c.in_ok-rows_of.ensures.reads c.archs_in.ensures.value c.archs_in.ensures.err in
-    record { tests = tests; passes = archs_pass c.archs_in.result tests }
+    let tests = tests_rows (asks_in ask.Archs c.all_archs.ensures refl) c.tested_archs.result c.in_ok-rows_of.ensures.reads c.tested_archs.ensures.value c.tested_archs.ensures.err in
+    record { tests = tests; passes = archs_pass c.tested_archs.result tests }

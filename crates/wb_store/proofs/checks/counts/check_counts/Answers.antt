@@ -14,9 +14,9 @@ returns-in_err-rows-clause-passes g c = counts_pass c.args.format c.from_residua
 
 pub returns-clause-tests : goal.returns-clause-tests
 returns-clause-tests g c =
-    tests_rows (asks_in ask.Office c.office_counts.ensures refl) c.counts_in.result c.in_ok-rows.ensures.reads
-    (subst (λ rows. IfOk c.counts_in.result (HoldsCounts c.args.format rows)) c.deref.ensures.value c.counts_in.ensures.value)
-    (subst (λ rows. IfErr c.counts_in.result (AreBadCounts c.args.format rows)) c.deref.ensures.value c.counts_in.ensures.err)
+    tests_rows (asks_in ask.Office c.office_counts.ensures refl) c.tested_counts.result c.in_ok-rows.ensures.reads
+    (subst (λ rows. IfOk c.tested_counts.result (HoldsCounts c.args.format rows)) c.deref.ensures.value c.tested_counts.ensures.value)
+    (subst (λ rows. IfErr c.tested_counts.result (AreBadCounts c.args.format rows)) c.deref.ensures.value c.tested_counts.ensures.err)
 
 pub returns-clause-passes : goal.returns-clause-passes
-returns-clause-passes g c = counts_pass c.args.format c.counts_in.result (returns-clause-tests g c)
+returns-clause-passes g c = counts_pass c.args.format c.tested_counts.result (returns-clause-tests g c)

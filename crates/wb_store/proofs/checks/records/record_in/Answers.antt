@@ -21,5 +21,5 @@ returns-else-branch-clause-err c =
       c.damaged-else-branch.ensures,
       unformed_record kept.format kept.archs.now kept.builders.now kept.handed c.args.row.now (entry_of c.in-Some.read)
           read.0 read.1
-          (λ formed. let both : false ≡ true = sym c.if-branch.false ∙ c.in_ok-is_formed.ensures.value.1 formed in cc),
+          (λ formed. let both : false ≡ true = sym c.if-branch.false ∙ c.in_ok-is_record_formed.ensures.value.1 formed in cc),
     )

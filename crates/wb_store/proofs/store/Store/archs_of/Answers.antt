@@ -24,10 +24,10 @@ returns g c =
       looks_up = rw (← c.self.view_is) (looks_up_rows (asks_of
           (ask.PairsOf c.args.builder.now) tt c.builder_pairs.ensures (ap (λ v. v ∷ [])
           (text_bound c.params-to_sql.ensures c.as_str.ensures)))
-          (ArePairs rows) c.archs_in.result c.in_ok-rows.ensures.reads
-          (λ machine scratch stands a. IfOk-weaker c.archs_in.result _ _
+          (ArePairs rows) c.arch_names_in.result c.in_ok-rows.ensures.reads
+          (λ machine scratch stands a. IfOk-weaker c.arch_names_in.result _ _
           (λ made have sound. archs_found machine db stands rows sound c.args.builder.now made.items refl a have)
-          c.archs_in.ensures.value)
-          c.archs_in.ensures.err
+          c.arch_names_in.ensures.value)
+          c.arch_names_in.ensures.err
           (λ machine scratch sound stands a. builder_readable machine db stands rows sound a));
     }

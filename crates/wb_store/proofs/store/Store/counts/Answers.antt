@@ -11,7 +11,7 @@ returns-in_err-states g c = record {
 
 pub returns : goal.returns
 returns g c = record {
-  looks_up = rw (← c.self.view_is) (looks_up_as c.counts_in.result c.in_ok-states.ensures.looks_up
-      (λ machine is. c.counts_in.ensures.value machine c.args.arch.now (subst (IsPermutation _)
+  looks_up = rw (← c.self.view_is) (looks_up_as c.state_counts_in.result c.in_ok-states.ensures.looks_up
+      (λ machine is. c.state_counts_in.ensures.value machine c.args.arch.now (subst (IsPermutation _)
       (sym c.deref.ensures.value) is)));
 }

@@ -2,7 +2,7 @@ use Rattle.std.proofs.Common.{◌∙◌}
 use Rattle.wb_states.specs.declared.state.State.TheVariants.{NeedsBuild, Building, Built, Uploaded, Installed, DepWait, BdUninstallable, Failed, NotForUs, BuildAttempted}
 use Rattle.wb_states.specs.Lookups.{counts_of}
 use Rattle.wb_store.proofs.StateLemmas.{numbers}
-use Rattle.wb_store.proofs.counts.counts_in.Goals as goal
+use Rattle.wb_store.proofs.counts.state_counts_in.Goals as goal
 
 pub returns : goal.returns
 unfolding counts_of

@@ -1,7 +1,7 @@
 use Rattle.std.proofs.Common.{subst, IfNone, ℕ}
 use Rattle.wb_store.specs.Checks.{HasFormat}
 use Rattle.wb_store.proofs.OpeningCountLemmas.{no_format}
-use Rattle.wb_store.proofs.checks.counts.counts_in.Goals as goal
+use Rattle.wb_store.proofs.checks.counts.tested_counts.Goals as goal
 
 pub returns-in_default-format_in-clause-err : goal.returns-in_default-format_in-clause-err
 returns-in_default-format_in-clause-err c =

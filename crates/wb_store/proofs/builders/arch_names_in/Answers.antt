@@ -6,7 +6,7 @@ use Rattle.wb_states.specs.declared.store_fault.Table.TheVariants.{Builder}
 use Rattle.wb_store.specs.Faults.{IsUnfit}
 use Rattle.wb_store.specs.Lookups.{ArePairs, IsReadablePair}
 use Rattle.wb_store.proofs.ReadLemmas.{handed_on, row_fault, row_read}
-use Rattle.wb_store.proofs.builders.archs_in.Goals as goal
+use Rattle.wb_store.proofs.builders.arch_names_in.Goals as goal
 
 pub returns-in_err-arch-clause-err : goal.returns-in_err-arch-clause-err
 returns-in_err-arch-clause-err c =

@@ -3,7 +3,7 @@ use Rattle.wb_states.specs.declared.store_fault.Table.TheVariants.{Arch}
 use Rattle.wb_rows.specs.Cells.{arch_cells}
 use Rattle.wb_store.specs.Checks.{AreBadRows, IsFormedArch}
 use Rattle.wb_store.proofs.CheckLemmas.{faulted, row_holds, row_is_bad}
-use Rattle.wb_store.proofs.checks.archs.archs_in.Goals as goal
+use Rattle.wb_store.proofs.checks.archs.tested_archs.Goals as goal
 
 pub returns-in_err-arch_in-clause-err : goal.returns-in_err-arch_in-clause-err
 returns-in_err-arch_in-clause-err c =

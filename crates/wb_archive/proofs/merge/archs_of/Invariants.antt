@@ -1,6 +1,0 @@
-use Rattle.std.proofs.Common.{◌≡◌, ◌++◌, drop}
-use Rattle.wb_archive.specs.Merges.{archs_of}
-use Rattle.wb_archive.proofs.merge.archs_of.Given as goal
-
-abbrev pub invariant-loop-part : goal.invariant-loop-part
-invariant-loop-part g l = l.archs.items ++ archs_of (drop l.part-index l.parts) ≡ archs_of l.parts
