@@ -1,11 +1,13 @@
 -- What an office over tables answers after a failure, and how it stands then.
-use Rattle.std.proofs.Common.{◌≡◌, ◌≢◌, ◌⊎◌, inl, inr, true, false, not, Bool, Option, Some, None, Result, Ok, Err, IsTrue, IfErr, refl, sym, ap, subst, ◌∙◌}
+use Rattle.std.proofs.Common.{◌≡◌, ◌≢◌, ◌⊎◌, inl, inr, true, false, not, Bool, List, Option, Some, None, Result, Ok, Err, IsTrue, IfErr, refl, sym, ap, subst, ◌∙◌}
 use Rattle.std.proofs.lemmas.Bool.{both_ways}
 use Rattle.sqlite_trees.specs.declared.store.Store.{Ghosts}
 use Rattle.sqlite.specs.Held.{Held, state}
 use Rattle.sqlite.specs.State.{State, HasCleanDisk, IsUnchanged, Survives}
 use Rattle.wb_sql.specs.Transactions.{IsKeptOrUndone, LeavesNoMore}
 use Rattle.wb_states.specs.declared.command.Command.{Command}
+use Rattle.wb_states.specs.declared.counts.Counts.{Counts}
+use Rattle.wb_states.specs.declared.reply.PartReply.{PartReply}
 use Rattle.wb_states.specs.declared.refusal.Refusal.{Refusal}
 use Rattle.wb_states.specs.declared.refusal.Refusal.TheVariants.{Closed, Memory, Store}
 use Rattle.wb_states.specs.declared.reply.Reply.{Reply}
@@ -14,6 +16,7 @@ use Rattle.wb_states.specs.declared.store_fault.StoreFault.{StoreFault}
 use Rattle.wb_states.specs.declared.store_fault.StoreFault.TheVariants as fault
 use Rattle.wb_states.specs.Machine.{Machine, empty_office}
 use Rattle.wb_states.specs.Refusals.{is_of_store}
+use Rattle.wb_merge.specs.Merged.{Records}
 use Rattle.wb_step.specs.Checks.{MayWantMemory, text_refusal}
 use Rattle.wb_step.specs.Step.{Outcome, step}
 use Rattle.wb_step.specs.TextChecks.{ChecksTexts}
@@ -29,9 +32,11 @@ use Rattle.wb_office.specs.declared.carry.CarryError.TheVariants.{TakenBack, Rol
 use Rattle.wb_office.specs.declared.known.Known.{Known}
 use Rattle.wb_office.specs.Answers.{IsLeft, Responds}
 use Rattle.wb_office.specs.Kinds.{IsOfStep}
+use Rattle.wb_office.specs.MergeCarried.{MergeEndsFor}
+use Rattle.wb_office.specs.MergeLists.{AreTextsDone}
 use Rattle.wb_office.specs.Failed.{HasFailed, IsOfficeOver}
 use Rattle.wb_office.specs.Standing.{Knows, StandsAt, LeavesOne}
-use Rattle.wb_office.specs.Applies.{refusal_for, refusal_of, CannotBeUsed, IsRefusedIn, Applies, Ends, EndsWith}
+use Rattle.wb_office.specs.Applies.{refusal_for, refusal_of, CannotBeUsed, CannotGoOn, IsNotTakenBack, IsRefusedIn, MustClose, Applies, Ends, EndsWith}
 use Rattle.wb_store.proofs.StaysLemmas.{was_clean}
 
 -- two refusals that are answered alike are the same
@@ -221,7 +226,7 @@ ends_not_taken_back g held e refusal told = record {
   ends = λ of_store. refl;
   opens = λ no_store other. absurd (none_opens e told no_store other);
   closes = λ clean is closed. inr (e, refl);
-  must = λ failed. refl;
+  must = λ failed. (refl, refl);
   same = λ other. refl;
 }
 
@@ -238,7 +243,7 @@ ends_in_doubt g held e refusal told = record {
   ends = λ of_store. refl;
   opens = λ no_store other. absurd (both_ways (is_of_store refusal) no_store (ap is_of_store told));
   closes = λ clean is closed. absurd (no_memory (sym told ∙ is));
-  must = λ failed. refl;
+  must = λ failed. (refl, refl);
   same = λ other. refl;
 }
   where
@@ -368,6 +373,29 @@ module _ {S : Type 0} (g : Ghosts S) (command : Command) (was_closed : Bool) (wa
         (failure, at, (responds.err (ends.was_clean clean) machine stands.consistent (settled_at stands opened) stands.knows).0, ends.told, ends.closes clean, ends.must, ends.same);
   }
 
+-- ---- a connection that cannot be used on
+
+-- the transaction of a merge could not be taken back
+pub merge_not_taken_back : {S : Type 0} (g : Ghosts S) (Done : Machine → List PartReply → Records → Type 0) (counts : Counts) (machine : Machine) (old new : Held S) (e : StoreFault)
+    → MergeEndsFor g Done counts machine old new (RollBackFailed e) → CannotGoOn g new
+merge_not_taken_back g Done counts machine old new e (inl ended) = inr ended.1
+merge_not_taken_back g Done counts machine old new e (inr (refusal, (refused, inl (at, failed)))) = inr (at, (e, failed))
+merge_not_taken_back g Done counts machine old new e (inr (refusal, (refused, inr (is, (at, runs))))) = inl (at, runs)
+
+-- nor could that of a command
+not_taken_back : {S : Type 0} (g : Ghosts S) (machine : Machine) (command : Command) (old new : Held S) (e : StoreFault)
+    → IsLeft g machine command old new (Uncommitted (RollBackFailed e)) → CannotGoOn g new
+not_taken_back g machine command old new e (back, inl kept) = inr kept.5.1
+not_taken_back g machine command old new e (back, inr (inl merged)) =
+    merge_not_taken_back g (AreTextsDone merged.1.sources merged.1.parts) merged.2 machine merged.0 new e merged.6
+not_taken_back g machine command old new e (back, inr (inr reported)) = inr reported.7.1
+
+-- an office that must be closed is over such a connection
+pub must_not_go_on : {S : Type 0} (g : Ghosts S) (at new : Held S) (is_closed : Bool) (failure : Failure)
+    → ((e : StoreFault) → failure ≡ Uncommitted (RollBackFailed e) → CannotGoOn g at) → (IsNotTakenBack failure → (is_closed ≡ true) × (new ≡ at)) → MustClose g failure at new → CannotGoOn g new
+must_not_go_on g at new is_closed failure fails same (inl unusable) = inl (at, unusable)
+must_not_go_on g at new is_closed failure fails same (inr failed) = subst (CannotGoOn g) (sym (same failed).1) (fails failed.0 failed.1)
+
 -- ---- the office that carries out commands
 
 -- an office was closed or was not
@@ -414,6 +442,12 @@ module _ {S : Type 0} (g : Ghosts S) (command : Command) (was_closed : Bool) (wa
   pub carried_closed : r ≡ Err Closed → (is_closed ≡ true) × StandsAt machine is_closed known (state g new)
   carried_closed is = open_or_shut was_closed (λ closed. ((h.shut closed).1, still closed))
       (λ opened. let left = refused_with Closed is opened in (left.0.ends refl, stands_on Closed left (left.0.shut refl)))
+
+  -- it is closed out of memory only if its connection cannot be used on
+  pub carried_cause : was_closed ≡ false → r ≡ Err Memory → is_closed ≡ true → CannotGoOn g new
+  carried_cause opened is closed =
+      let why = at_err _ r Memory is (h.cause clean machine stands opened) in
+      must_not_go_on g why.1 new is_closed why.0 (λ e failed. not_taken_back g machine command old why.1 e (subst (IsLeft g machine command old why.1) failed why.2)) why.5 (why.4 refl closed)
 
   -- the store failed with the fault that is told
   failed_with : (f : StoreFault) → r ≡ Err (Store f) → was_closed ≡ false → HasFailed g machine f new

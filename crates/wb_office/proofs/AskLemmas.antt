@@ -27,7 +27,7 @@ use Rattle.wb_step.specs.Offices.{StandsOn}
 use Rattle.wb_store.proofs.SettledLemmas.{settled_back}
 use Rattle.wb_office.specs.declared.known.Known.{Known}
 use Rattle.wb_office.specs.Asks.{Asks, IsAskedAt, IsUnread}
-use Rattle.wb_office.specs.Applies.{EndsWith}
+use Rattle.wb_office.specs.Applies.{CannotGoOn, EndsWith}
 use Rattle.wb_store.specs.Finds.{FailsToFind, Finds}
 use Rattle.wb_office.specs.Failed.{HasFailed}
 use Rattle.wb_office.specs.Standing.{Knows, StandsAt, LeavesOne}
@@ -243,6 +243,13 @@ module _ {S : Type 0} {g : Ghosts S} {answer_of : Machine → Result Answer Refu
             | true ↦ λ bad. absurd (bad_is_not_memory (sym (h.named opened bad).0 ∙ is))
             | false ↦ λ good. refl
           ]) refl)
+
+  -- it is closed out of memory only if its connection cannot be used on
+  pub asked_cause : was_closed ≡ false → r ≡ Err Memory → is_closed ≡ true → CannotGoOn g new
+  asked_cause opened is closed = elim (h.asked clean machine stands opened) [
+    | inl answered ↦ absurd (both_ways is_closed answered.2 closed)
+    | inr (refusal, failed, unread) ↦ inl (unread.at, unread.closes (same_err (sym failed ∙ is)) closed)
+  ]
 
   -- it says that it is closed only if it was
   asked_when_shut : r ≡ Err Closed → was_closed ≡ true

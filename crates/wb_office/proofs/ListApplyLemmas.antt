@@ -7,7 +7,8 @@ use Rattle.sqlite_trees.specs.declared.store.Store.{Ghosts}
 use Rattle.sqlite.specs.Held.{Held, state}
 use Rattle.sqlite.specs.State.{State, HasCleanDisk}
 use Rattle.deb_control.specs.declared.fault.ControlFault.{ControlFault}
-use Rattle.deb_control.specs.FeedState.{FeedState}
+use Rattle.deb_control.specs.Feed.{MayStandAt}
+use Rattle.deb_control.specs.FeedState.{FeedState, fresh}
 use Rattle.deb_text.specs.Lists.{IsIn}
 use Rattle.deb_text.specs.Options.{first_some}
 use Rattle.wb_states.specs.declared.command.Part.{Part}
@@ -23,6 +24,7 @@ use Rattle.wb_step.specs.Step.{Outcome}
 use Rattle.wb_step.proofs.InvariantLemmas.{step-keeps}
 use Rattle.wb_archive.specs.declared.merge.PartList.{PartList}
 use Rattle.wb_archive.specs.declared.merge_from.ArchList.{ArchList}
+use Rattle.wb_archive.specs.Feeds.{IsFeedBreak}
 use Rattle.wb_archive.specs.Readers.{IsFeedOf, IsListOf, IsMergeOf, IsPartReadFault, IsReadFault, MayLeave, archs_refusal, has_bad_arch, has_repeated_arch}
 use Rattle.wb_archive.proofs.ReaderLemmas.{names-refused, texts-more, texts-step}
 use Rattle.wb_store.specs.Settled.{IsBackAt, LeavesEither}
@@ -32,12 +34,13 @@ use Rattle.wb_office.specs.declared.answer.Failure.TheVariants.{Refused, Unread,
 use Rattle.wb_office.specs.declared.carry.CarryError.{CarryError}
 use Rattle.wb_office.specs.declared.carry.CarryError.TheVariants.{TakenBack, RollBackFailed, InDoubt}
 use Rattle.wb_office.specs.declared.known.Known.{Known}
-use Rattle.wb_office.specs.Applies.{Ends, refusal_for}
+use Rattle.wb_office.specs.Applies.{CannotGoOn, Ends, refusal_for}
 use Rattle.wb_office.specs.AppliesLists.{AppliesLists, AreListsApplied, AreListsRefused}
 use Rattle.wb_office.specs.Failed.{HasFailed}
 use Rattle.wb_office.specs.ListAnswers.{AreListsLeft, ListsLeaveAs, RespondsLists}
+use Rattle.wb_office.specs.MergeLists.{AreListsDone}
 use Rattle.wb_office.specs.Standing.{Knows, LeavesOne, StandsAt}
-use Rattle.wb_office.proofs.ApplyLemmas.{at_err, either_of, if_err, none_opens, not_closed_by, office_over, open_or_shut, same_err, settled_at, stays_shut}
+use Rattle.wb_office.proofs.ApplyLemmas.{at_err, either_of, if_err, merge_not_taken_back, must_not_go_on, none_opens, not_closed_by, office_over, open_or_shut, same_err, settled_at, stays_shut}
 
 -- ---- the state after a merge
 
@@ -297,6 +300,14 @@ module _ {S R : Type 0} {g : Ghosts S} {remaining : R → Option (List ℕ)} {so
 
   pub lists_closed : r ≡ Err Closed → (is_closed ≡ true) × StandsAt machine is_closed known (state g new)
   lists_closed is = open_or_shut was_closed (λ closed. ((h.shut closed).1, still closed)) (λ opened. absurd ((h.stands opened).never is))
+
+  -- it is closed out of memory only if its connection cannot be used on
+  pub lists_cause : was_closed ≡ false → r ≡ Err Memory → is_closed ≡ true → CannotGoOn g new
+  lists_cause opened is closed =
+      let why = at_err _ r Memory is (h.cause clean machine stands opened) in
+      must_not_go_on g why.1 new is_closed why.0 (λ e failed.
+        let left = subst (AreListsLeft g remaining sources lists machine old why.1) failed why.2 in
+        merge_not_taken_back g (AreListsDone MayStandAt IsFeedBreak (fresh (remaining sources)) left.1.1) left.1.2 machine left.1.0 why.1 e left.1.6) why.5 (why.4 refl closed)
 
   -- the store failed with the fault that is told
   lists_failed : (fault : StoreFault) → r ≡ Err (Store fault) → was_closed ≡ false → HasFailed g machine fault new

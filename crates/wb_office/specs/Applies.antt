@@ -22,6 +22,7 @@ use Rattle.wb_office.specs.declared.answer.Failure.TheVariants.{Refused, Unread,
 use Rattle.wb_office.specs.declared.carry.CarryError.TheVariants.{TakenBack, RollBackFailed, InDoubt}
 use Rattle.wb_office.specs.declared.known.Known.{Known}
 use Rattle.wb_office.specs.Answers.{IsLeft}
+use Rattle.wb_office.specs.Carried.{FailsToRollBack}
 use Rattle.wb_office.specs.Standing.{Knows, StandsAt}
 
 -- the refusal for a fault of the store: out of memory is a refusal of its own
@@ -58,6 +59,10 @@ IsNotTakenBack failure = (fault : StoreFault) × (failure ≡ Uncommitted (RollB
 abbrev pub MustClose : {S : Type 0} → Ghosts S → Failure → Held S → Held S → Type 0
 MustClose g failure old new = CannotBeUsed g old new ⊎ IsNotTakenBack failure
 
+-- the connection of an office that is closed out of memory: the empty text failed on it, or ROLLBACK did
+abbrev pub CannotGoOn : {S : Type 0} → Ghosts S → Held S → Type 0
+CannotGoOn {S} g new = ((at : Held S) × CannotBeUsed g at new) ⊎ FailsToRollBack g new
+
 -- a refusal leaves the connection as it was, and after any other failure it is open if the office is not closed
 abbrev pub IsOpenAfter : {S : Type 0} → Ghosts S → Failure → Held S → Held S → Bool → Type 0
 IsOpenAfter g (Refused refusal) old new is_closed = new ≡ old
@@ -76,7 +81,7 @@ pub record Ends {S : Type 0} (g : Ghosts S) (failure : Failure) (old new : Held 
   pub ends : is_of_store refusal ≡ true → is_closed ≡ true
   pub opens : is_of_store refusal ≡ false → refusal ≢ Memory → is_closed ≡ false
   pub closes : HasCleanDisk (state g new) → refusal ≡ Memory → is_closed ≡ true → MustClose g failure old new
-  pub must : IsNotTakenBack failure → is_closed ≡ true
+  pub must : IsNotTakenBack failure → (is_closed ≡ true) × (new ≡ old)
   pub same : refusal ≢ Memory → new ≡ old
 
 -- an office over tables carries out a command: the reply is that of the step, the office stands at the state after it, and the tables of others
@@ -100,7 +105,7 @@ pub record Applies {S : Type 0} (g : Ghosts S) (command : Command) (was_closed :
       → IfErr result (λ refusal. IsRefusedIn g machine command is_closed new refusal × Knows machine known)
   pub cause : HasCleanDisk (state g new) → (machine : Machine) → StandsAt machine was_closed was_known (state g old) → was_closed ≡ false
       → IfErr result (λ refusal. (failure : Failure) × (at : Held S) × IsLeft g machine command old at failure × (refusal ≡ refusal_of failure)
-      × (refusal ≡ Memory → is_closed ≡ true → MustClose g failure at new) × (IsNotTakenBack failure → is_closed ≡ true)
+      × (refusal ≡ Memory → is_closed ≡ true → MustClose g failure at new) × (IsNotTakenBack failure → (is_closed ≡ true) × (new ≡ at))
       × (refusal ≢ Memory → new ≡ at))
 
 -- what is answered after this fault of a call that changed nothing, and whether the office is closed then: out of memory, it is closed only if its

@@ -56,5 +56,5 @@ pub record AppliesLists {S R : Type 0} (g : Ghosts S) (remaining : R → Option 
       → IfErr result (λ refusal. AreListsRefused g remaining sources lists machine is_closed new refusal × Knows machine known)
   pub cause : HasCleanDisk (state g new) → (machine : Machine) → StandsAt machine was_closed was_known (state g old) → was_closed ≡ false
       → IfErr result (λ refusal. (failure : Failure) × (at : Held S) × AreListsLeft g remaining sources lists machine old at failure × (refusal ≡ refusal_of failure)
-      × (refusal ≡ Memory → is_closed ≡ true → MustClose g failure at new) × (IsNotTakenBack failure → is_closed ≡ true)
+      × (refusal ≡ Memory → is_closed ≡ true → MustClose g failure at new) × (IsNotTakenBack failure → (is_closed ≡ true) × (new ≡ at))
       × (refusal ≢ Memory → new ≡ at))

@@ -24,7 +24,7 @@ ghost use Rattle.wb_store.specs.TableRows.{FailsToShowOne, table_rows};
 ghost use Rattle.wb_rows.specs.Shown.{row_of};
 ghost use Rattle.wb_office.specs.declared.answer.Failure.TheVariants.{Uncommitted};
 ghost use Rattle.wb_states.specs.Queries.{answer_of, has_malformed_name};
-ghost use Rattle.wb_office.specs.Applies.{Applies, Ends, EndsWith, refusal_for};
+ghost use Rattle.wb_office.specs.Applies.{Applies, CannotGoOn, Ends, EndsWith, refusal_for};
 ghost use Rattle.wb_office.specs.AppliesLists.{AppliesLists};
 ghost use Rattle.wb_office.specs.Asks.{Asks};
 ghost use Rattle.wb_office.specs.Failed.{HasFailed};
@@ -381,6 +381,8 @@ impl<S: Alter + Drop> CarryOut for Office<S> {
 
     ghost leaves = { λ office before after fault. LeavesOne before after office.is_closed (state S.Store office.store)
         × HasFailed S.Store before fault office.store };
+
+    ghost cannot_go_on = { λ office. CannotGoOn S.Store office.store };
 
     fn accepted_count(&self) -> u64 {
         self.known.counts.accepted

@@ -1,5 +1,5 @@
 use Rattle.wb_states.proofs.QueryLemmas.{answer-has-no-store}
-use Rattle.wb_office.proofs.AskLemmas.{asked_answer, asked_refused, asked_memory, asked_closed, asked_store}
+use Rattle.wb_office.proofs.AskLemmas.{asked_answer, asked_refused, asked_memory, asked_cause, asked_closed, asked_store}
 use Rattle.wb_office.proofs.ApplyLemmas.{is_open, told_closed}
 use Rattle.wb_office.proofs.office.OfficeCarryOut.ask.Goals as goal
 
@@ -11,6 +11,9 @@ returns-clause-refused g c = asked_refused c.ask.ensures.asks (λ machine. answe
 
 pub returns-clause-memory : goal.returns-clause-memory
 returns-clause-memory g c = asked_memory c.ask.ensures.asks (λ machine. answer-has-no-store machine c.args.query.now)
+
+pub returns-clause-cause : goal.returns-clause-cause
+returns-clause-cause g c = λ machine clean stands other. asked_cause c.ask.ensures.asks (λ machine. answer-has-no-store machine c.args.query.now) machine clean stands (is_open c.args.self.now.is_closed other)
 
 pub returns-clause-closed : goal.returns-clause-closed
 returns-clause-closed g c = asked_closed c.ask.ensures.asks (λ machine. answer-has-no-store machine c.args.query.now)

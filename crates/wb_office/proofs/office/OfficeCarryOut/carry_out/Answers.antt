@@ -1,4 +1,4 @@
-use Rattle.wb_office.proofs.ApplyLemmas.{carried_refused, carried_memory, carried_closed, carried_store, is_open, told_closed}
+use Rattle.wb_office.proofs.ApplyLemmas.{carried_refused, carried_memory, carried_cause, carried_closed, carried_store, is_open, told_closed}
 use Rattle.wb_office.proofs.office.OfficeCarryOut.carry_out.Goals as goal
 
 pub returns-clause-refused : goal.returns-clause-refused
@@ -6,6 +6,9 @@ returns-clause-refused g c = λ machine clean stands. carried_refused g.S.Store 
 
 pub returns-clause-memory : goal.returns-clause-memory
 returns-clause-memory g c = λ machine clean stands. carried_memory g.S.Store c.args.command.now c.args.self.now.is_closed c.args.self.now.known c.args.self.now.store c.apply.new.self.is_closed c.apply.new.self.known c.apply.new.self.store c.apply.result c.apply.ensures.applies machine clean stands
+
+pub returns-clause-cause : goal.returns-clause-cause
+returns-clause-cause g c = λ machine clean stands other. carried_cause g.S.Store c.args.command.now c.args.self.now.is_closed c.args.self.now.known c.args.self.now.store c.apply.new.self.is_closed c.apply.new.self.known c.apply.new.self.store c.apply.result c.apply.ensures.applies machine clean stands (is_open c.args.self.now.is_closed other)
 
 pub returns-clause-closed : goal.returns-clause-closed
 returns-clause-closed g c = λ machine clean stands. carried_closed g.S.Store c.args.command.now c.args.self.now.is_closed c.args.self.now.known c.args.self.now.store c.apply.new.self.is_closed c.apply.new.self.known c.apply.new.self.store c.apply.result c.apply.ensures.applies machine clean stands

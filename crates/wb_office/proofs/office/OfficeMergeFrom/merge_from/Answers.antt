@@ -1,5 +1,5 @@
 use Rattle.wb_office.proofs.ApplyLemmas.{is_open, told_closed}
-use Rattle.wb_office.proofs.ListApplyLemmas.{lists_are_refused, lists_closed, lists_memory, lists_reply, lists_store}
+use Rattle.wb_office.proofs.ListApplyLemmas.{lists_are_refused, lists_cause, lists_closed, lists_memory, lists_reply, lists_store}
 use Rattle.wb_office.proofs.office.OfficeMergeFrom.merge_from.Goals as goal
 
 pub returns-clause-shut : goal.returns-clause-shut
@@ -22,6 +22,9 @@ returns-clause-refused g c = λ machine clean stands. lists_are_refused c.merge_
 
 pub returns-clause-memory : goal.returns-clause-memory
 returns-clause-memory g c = λ machine clean stands. lists_memory c.merge_from.ensures.applies machine clean stands
+
+pub returns-clause-cause : goal.returns-clause-cause
+returns-clause-cause g c = λ machine clean stands other. lists_cause c.merge_from.ensures.applies machine clean stands (is_open c.args.self.now.is_closed other)
 
 pub returns-clause-closed : goal.returns-clause-closed
 returns-clause-closed g c = λ machine clean stands. lists_closed c.merge_from.ensures.applies machine clean stands
