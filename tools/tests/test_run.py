@@ -504,6 +504,10 @@ MALFORMED = [
         "build-priority amd64 hello 1.0 five",
         "VALUE is five, and has to be an integer from -9223372036854775808 to 9223372036854775807",
     ),
+    (
+        "build-priority amd64 hello 1.0 -9223372036854775809",
+        "VALUE is -9223372036854775809, and has to be an integer from -9223372036854775808 to 9223372036854775807",
+    ),
     ("merge Sources amd64", "PART is amd64, and has to be ARCH=PACKAGESFILE"),
     ("merge Sources amd64=Packages i386 arm64", "PART is i386, and has to be ARCH=PACKAGESFILE"),
 ]
@@ -522,7 +526,8 @@ def names_malformed_arguments(folder):
     wanted = "".join(f"wb: line {at + 1}: {said}\n" for at, (_, said) in enumerate(MALFORMED))
     met = started(folder, "run", lines="".join(f"{line}\n" for line, _ in MALFORMED))
     expect(met == (2, len(MALFORMED) * '{"fault":"line"}\n', wanted), f"{met} in place of {wanted!r}")
-    for line in ("-- built 1", "built", "built 1 2", "buil 1"):
+    options = ("build-priority amd64 -5 1.0 5", "build-priority amd64 hello 1.0 -5x", "rebuild amd64 hello 1.0 -1")
+    for line in ("-- built 1", "built", "built 1 2", "buil 1", *options):
         status, answer, said = started(folder, "run", lines=line)
         expect(
             (status, answer) == (2, '{"fault":"line"}\n') and said.startswith("wb: line 1: error: "),

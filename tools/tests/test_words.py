@@ -42,6 +42,7 @@ LINES = [
     "enter amd64 bash 5.2-1 required shells",
     "queue amd64",
     "build-priority amd64 bash 5.2-1 -- -50",
+    "build-priority amd64 bash 5.2-1 -60",
     "build-priority amd64 bash 5.2-1 1001",
     "next amd64 b1",
     "next amd64 b1 --after 0",
@@ -253,7 +254,10 @@ def refuses_after_the_store_was_opened(folder):
     ]
     cases += [(["rebuild", "amd64", "hello", "1.0", "one"], f"NUMBER is one, and {number}")]
     integer = "has to be an integer from -9223372036854775808 to 9223372036854775807"
-    cases += [(["build-priority", "amd64", "hello", "1.0", "five"], f"VALUE is five, and {integer}")]
+    cases += [
+        (["build-priority", "amd64", "hello", "1.0", value], f"VALUE is {value}, and {integer}")
+        for value in ("five", "-9223372036854775809")
+    ]
     cases += [
         (["merge", "Sources", "amd64=Packages", part], f"PART is {part}, and has to be ARCH=PACKAGESFILE")
         for part in ("amd64", "", "a b")
@@ -531,6 +535,44 @@ def takes_words_as_they_are(folder):
     expect(shown == "libc6 (>= 2.36), gcc | clang", f"waits: {shown}")
 
 
+# The arguments of `build-priority` but for the last.
+SUBJECT = ["amd64", "hello", "1.0"]
+
+# Words with a hyphen that are not the last word of `build-priority`, or are no number: options, or too many.
+OPTIONS = [
+    ["build-priority", *SUBJECT, "-5x"], ["build-priority", *SUBJECT, "-+5"], ["build-priority", *SUBJECT, "--5"],
+    ["build-priority", *SUBJECT, "-5", "-6"], ["build-priority", *SUBJECT, "-5", "6"],
+    ["build-priority", *SUBJECT, "5", "-6"], ["build-priority", "amd64", "-5", "1.0", "5"],
+    ["build-priority", "-x", "hello", "1.0", "-5"], ["build-priority", "-5", *SUBJECT], ["rebuild", *SUBJECT, "-1"],
+    ["fail", *SUBJECT, "-1"], ["built", "-1"],
+]
+
+
+def expect_build_priority(folder, status, value, given):
+    """That these words gave the source package this build priority. It gets another one then."""
+    shown = json.loads(stored(folder, "item", "amd64", "hello")[1])["build_priority"]
+    expect((status, shown) == (0, int(value)), f"{given}: {status}, {shown}")
+    expect(stored(folder, "build-priority", *SUBJECT, "7")[0] == 0, "another build priority")
+
+
+def takes_negative_build_priorities(folder):
+    """A negative build priority that is the last word needs no `--`, as words of the program and in a line; other words
+    with a hyphen are options, as of other subcommands."""
+    answers_of(folder, BEGIN)
+    for value in ("-50", "-1000", "-0", "-007"):
+        for named in ([*SUBJECT, value], [*SUBJECT, "--", value], ["amd64", "--", *SUBJECT[1:], value]):
+            given = ["build-priority", *named]
+            expect_build_priority(folder, stored(folder, *given)[0], value, given)
+            expect_build_priority(folder, words(folder, "--store=store", *given)[0], value, given)
+            expect_build_priority(folder, run(folder, [" ".join(given)])[0], value, given)
+    for given in OPTIONS:
+        for met in (stored(folder, *given), words(folder, *given)):
+            expect(met[:2] == (2, FAULT) and met[2].startswith("error: "), f"{given}: {met}")
+        expect(run(folder, [" ".join(given)]) == (2, FAULT.encode()), f"{given}: a line")
+    met = words(folder, "build-priority", *SUBJECT, "-1001")
+    expect(met == (1, '{"code":14,"refused":"BadNumber"}\n', ""), f"below the least: {met}")
+
+
 def reads_files_of_any_name(folder):
     """Names of files with blanks, and with further equals signs."""
     fill(folder)
@@ -613,7 +655,7 @@ TESTS += [
     says_where_the_store_comes, says_what_takes_seconds_at_a_terminal,
     names_refused_words_at_a_terminal, names_compressed_lists,
 ]
-TESTS += [takes_words_as_they_are]
+TESTS += [takes_words_as_they_are, takes_negative_build_priorities]
 TESTS += [reads_files_of_any_name, writes_nothing_for_queries, begins_an_office_for_a_query, names_the_fault_of_a_store]
 if __name__ == "__main__":
     sys.exit(main(TESTS))

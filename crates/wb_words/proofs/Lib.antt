@@ -1,4 +1,5 @@
 pub mod ArgumentLemmas
+pub mod EscapeLemmas
 pub mod InvocationLemmas
 pub mod LiteralLemmas
 pub mod RowLemmas

@@ -10,11 +10,12 @@ use Rattle.wb_states.specs.declared.query.Query.TheVariants as query
 use Rattle.wb_words.specs.Arguments.{word_of}
 use Rattle.wb_words.specs.Start.{begin_with_query}
 use Rattle.wb_words.specs.Usages.{Argument, Usage, arguments_named, query_usages, usage_named, wb_app, wb_usages}
-use Rattle.wb_words.specs.Words.{IsQuery, arch_query_of, command_named, invocation_in, invocation_named, list_invocation, or_asked, other_invocation, query_named, query_of, unless_faulty}
+use Rattle.wb_words.specs.Words.{IsQuery, invocation_in, invocation_named, invocation_read, or_asked, unless_faulty}
 use Rattle.wb_words.specs.declared.words.Invocation.{Invocation}
 use Rattle.wb_words.specs.declared.words.Invocation.TheVariants as invocation
 use Rattle.wb_words.proofs.LiteralLemmas.{words_on_literals}
 use Rattle.wb_words.proofs.SubcommandLemmas.{subcommand_of-known}
+use Rattle.wb_words.proofs.TreeLemmas.{invocation_in-other}
 
 -- what holds of each name of a table holds of a name that the table has
 named-by : (P : Text → Type 0) (name : Text) (usages : List Usage) → AllByRecursion (λ usage. P usage.0) usages
@@ -32,13 +33,20 @@ faultless [] asked h = h
 faultless (kind ∷ kinds) asked h = tt
 
 -- the words of a subcommand that asks for queries alone ask for a query, or for nothing
-asks-query : (name : Text) (arguments : List Argument) → usage_named name wb_usages ≡ Some (name, arguments)
-    → ((rows : List Row) → IfSome (invocation_named (name, rows)) IsQuery) → (rest : List Text) → IfSome (invocation_in (name ∷ rest)) IsQuery
-unfolding invocation_in
-asks-query name arguments found h rest =
+read-query : (name : Text) (arguments : List Argument) → usage_named name wb_usages ≡ Some (name, arguments)
+    → ((rows : List Row) → IfSome (invocation_named (name, rows)) IsQuery) → (rest : List Text) → IfSome (invocation_read (name ∷ rest)) IsQuery
+unfolding invocation_read
+read-query name arguments found h rest =
     faultless (fault_of wb_app (name ∷ rest)) _
     (subst (λ (met : Option (Text × List Row)). IfSome (option_and_then invocation_named met) IsQuery)
     (sym (subcommand_of-known name rest arguments found)) (h _))
+
+asks-query : (name : Text) (arguments : List Argument) → usage_named name wb_usages ≡ Some (name, arguments)
+    → bytes_eq name (codes "build-priority") ≡ false
+    → ((rows : List Row) → IfSome (invocation_named (name, rows)) IsQuery) → (rest : List Text) → IfSome (invocation_in (name ∷ rest)) IsQuery
+asks-query name arguments found other h rest =
+    subst (λ (asked : Option Invocation). IfSome asked IsQuery) (sym (invocation_in-other name rest other))
+    (read-query name arguments found h rest)
 
 -- a query of one word, and one of an architecture and a word
 one-word : (asks : Text → Query) (word : Option Text) → IfSome (or_asked None (option_or (option_map (λ q. invocation.Query q) (option_map asks word)) None)) IsQuery
@@ -54,17 +62,17 @@ two-words asks (Some arch) (Some word) = tt
 each-name : AllByRecursion (λ usage. (rest : List Text) → IfSome (invocation_in (usage.0 ∷ rest)) IsQuery) query_usages
 unfolding words_on_literals wb_usages
 each-name = (
-  asks-query (codes "queue") _ refl (λ rows. one-word (λ arch. query.Queue arch) (word_of (codes "arch") rows)),
+  asks-query (codes "queue") _ refl refl (λ rows. one-word (λ arch. query.Queue arch) (word_of (codes "arch") rows)),
   (
-    asks-query (codes "summary") _ refl (λ rows. one-word (λ arch. query.Summary arch) (word_of (codes "arch") rows)),
+    asks-query (codes "summary") _ refl refl (λ rows. one-word (λ arch. query.Summary arch) (word_of (codes "arch") rows)),
     (
-      asks-query (codes "by-state") _ refl (λ rows. two-words (λ arch state. query.ByState arch state) (word_of (codes "arch") rows) (word_of (codes "state") rows)),
+      asks-query (codes "by-state") _ refl refl (λ rows. two-words (λ arch state. query.ByState arch state) (word_of (codes "arch") rows) (word_of (codes "state") rows)),
       (
-        asks-query (codes "item") _ refl (λ rows. two-words (λ arch source. query.Item arch source) (word_of (codes "arch") rows) (word_of (codes "source") rows)),
+        asks-query (codes "item") _ refl refl (λ rows. two-words (λ arch source. query.Item arch source) (word_of (codes "arch") rows) (word_of (codes "source") rows)),
         (
-          asks-query (codes "depends") _ refl (λ rows. two-words (λ arch source. query.Depends arch source) (word_of (codes "arch") rows) (word_of (codes "source") rows)),
+          asks-query (codes "depends") _ refl refl (λ rows. two-words (λ arch source. query.Depends arch source) (word_of (codes "arch") rows) (word_of (codes "source") rows)),
           (
-            asks-query (codes "mine") _ refl (λ rows. one-word (λ builder. query.Mine builder) (word_of (codes "builder") rows)),
+            asks-query (codes "mine") _ refl refl (λ rows. one-word (λ builder. query.Mine builder) (word_of (codes "builder") rows)),
             tt,
           ),
         ),

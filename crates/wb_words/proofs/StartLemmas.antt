@@ -15,7 +15,7 @@ use Rattle.clap.specs.declared.error.Error.{Error}
 use Rattle.clap.specs.declared.error.kind.ErrorKind.{ErrorKind}
 use Rattle.clap.specs.declared.error.kind.ErrorKind.TheVariants.{DisplayHelp, OutOfMemory}
 use Rattle.clap.proofs.OnLiterals.{clap_on_literals}
-use Rattle.wb_words.specs.Start.{Asks, AsksNone, IsNoStart, Names, Starts, begin_with_query, begins_with_help, single_words, start_app, start_faults, store_in, subcommand_in, with_journal}
+use Rattle.wb_words.specs.Start.{Asks, AsksNone, IsNoStart, Names, Starts, begin_with_query, begins_with_help, single_words, start_app, start_faults, start_words, store_in, subcommand_in, with_journal}
 use Rattle.wb_words.specs.declared.start.Start.{Start}
 use Rattle.wb_words.specs.declared.start.Start.TheVariants.{Run, Serve, Ask, CarryOut, Help}
 
@@ -28,42 +28,45 @@ unfolding with_journal start_app clap_on_literals
 start_app-simple = refl
 
 -- an error that is no want of memory is one of the faults
-pub start_faults-failed : (app : App) (words : List Text) (error : Error) → app ≡ start_app
-    → (is_simple_and_free app ≡ true → HasKind (fault_of app words) error)
+pub start_faults-failed : (app : App) (words read : List Text) (error : Error) → app ≡ start_app → read ≡ start_words words
+    → (is_simple_and_free app ≡ true → HasKind (fault_of app read) error)
     → (kind_of error ≡ OutOfMemory → ⊥) → IsAmong (kind_of error) (start_faults words)
 unfolding start_faults
-start_faults-failed app words error e h other =
-    let fails : HasKind (fault_of start_app words) error =
-    subst (λ (a : App). HasKind (fault_of a words) error) e (h (ap is_simple_and_free e ∙ start_app-free)) in
+start_faults-failed app words read error e is h other =
+    let fails : HasKind (fault_of start_app (start_words words)) error =
+    subst (λ (w : List Text). HasKind (fault_of start_app w) error) is
+    (subst (λ (a : App). HasKind (fault_of a read) error) e (h (ap is_simple_and_free e ∙ start_app-free))) in
     elim fails [ inl memory ↦ absurd (other memory) | inr among ↦ among ]
 
 -- words that are read have no fault
-pub start_faults-none : (app : App) (words : List Text) → app ≡ start_app
-    → (is_simple_and_free app ≡ true → fault_of app words ≡ []) → start_faults words ≡ []
+pub start_faults-none : (app : App) (words read : List Text) → app ≡ start_app → read ≡ start_words words
+    → (is_simple_and_free app ≡ true → fault_of app read ≡ []) → start_faults words ≡ []
 unfolding start_faults
-start_faults-none app words e free =
-    subst (λ (a : App). fault_of a words ≡ []) e (free (ap is_simple_and_free e ∙ start_app-free))
+start_faults-none app words read e is free =
+    subst (λ (w : List Text). fault_of start_app w ≡ []) is
+    (subst (λ (a : App). fault_of a read ≡ []) e (free (ap is_simple_and_free e ∙ start_app-free)))
 
 -- an error that asks for help is a wish for it among the faults
-pub start_faults-help : (app : App) (words : List Text) (error : Error) → app ≡ start_app
-    → (is_simple_and_free app ≡ true → HasKind (fault_of app words) error)
+pub start_faults-help : (app : App) (words read : List Text) (error : Error) → app ≡ start_app → read ≡ start_words words
+    → (is_simple_and_free app ≡ true → HasKind (fault_of app read) error)
     → kind_of error ≡ DisplayHelp → IsAmong DisplayHelp (start_faults words)
-start_faults-help app words error e h help =
-    subst (λ (kind : ErrorKind). IsAmong kind (start_faults words)) help (start_faults-failed app words error e h (λ memory. cc))
+start_faults-help app words read error e is h help =
+    subst (λ (kind : ErrorKind). IsAmong kind (start_faults words)) help (start_faults-failed app words read error e is h (λ memory. cc))
 
 -- the word that was found for an option is that of the words
-pub store_in-found : (app : App) (words : List Text) (rows : List Row) → app ≡ start_app
-    → (is_simple app ≡ true → rows ≡ matches_of app words) → first_of (codes "store") rows ≡ store_in words
+pub store_in-found : (app : App) (words read : List Text) (rows : List Row) → app ≡ start_app → read ≡ start_words words
+    → (is_simple app ≡ true → rows ≡ matches_of app read) → first_of (codes "store") rows ≡ store_in words
 unfolding store_in
-store_in-found app words rows e found =
-    ap (first_of (codes "store")) (found (ap is_simple e ∙ start_app-simple) ∙ ap (λ (a : App). matches_of a words) e)
+store_in-found app words read rows e is found =
+    ap (first_of (codes "store")) (found (ap is_simple e ∙ start_app-simple)
+    ∙ ap₂ (λ (a : App) (w : List Text). matches_of a w) e is)
 
 -- the subcommand that was met is that of the words
-pub subcommand_in-met : (app : App) (words : List Text) (met : Option (Text × List Row)) → app ≡ start_app
-    → (is_simple app ≡ true → met ≡ subcommand_of app words) → met ≡ subcommand_in words
+pub subcommand_in-met : (app : App) (words read : List Text) (met : Option (Text × List Row)) → app ≡ start_app
+    → read ≡ start_words words → (is_simple app ≡ true → met ≡ subcommand_of app read) → met ≡ subcommand_in words
 unfolding subcommand_in
-subcommand_in-met app words met e found =
-    found (ap is_simple e ∙ start_app-simple) ∙ ap (λ (a : App). subcommand_of a words) e
+subcommand_in-met app words read met e is found =
+    found (ap is_simple e ∙ start_app-simple) ∙ ap₂ (λ (a : App) (w : List Text). subcommand_of a w) e is
 
 -- words that have no fault ask for what their subcommand asks for
 pub starts-asked : (words : List Text) (start : Start) → begins_with_help words ≡ false → start_faults words ≡ []
@@ -79,27 +82,27 @@ starts-asked words Help h faults asks = absurd (never (subcommand_in words) asks
     never (Some named) asks = asks
 
 -- words whose subcommand, as it was met, asks for something
-pub starts-met : (app : App) (words : List Text) (rows : List Row) (met : Option (Text × List Row)) (start : Start)
-    → app ≡ start_app → begins_with_help words ≡ false
-    → (is_simple_and_free app ≡ true → fault_of app words ≡ [])
-    → (is_simple app ≡ true → (rows ≡ matches_of app words) × (met ≡ subcommand_of app words))
+pub starts-met : (app : App) (words read : List Text) (rows : List Row) (met : Option (Text × List Row)) (start : Start)
+    → app ≡ start_app → read ≡ start_words words → begins_with_help words ≡ false
+    → (is_simple_and_free app ≡ true → fault_of app read ≡ [])
+    → (is_simple app ≡ true → (rows ≡ matches_of app read) × (met ≡ subcommand_of app read))
     → Asks words (first_of (codes "store") rows) met start → Starts words start
-starts-met app words rows met start e h free found asks =
-    let stored : first_of (codes "store") rows ≡ store_in words = store_in-found app words rows e (λ simple. (found simple).0) in
-    let named : met ≡ subcommand_in words = subcommand_in-met app words met e (λ simple. (found simple).1) in
-    starts-asked words start h (start_faults-none app words e free)
+starts-met app words read rows met start e is h free found asks =
+    let stored : first_of (codes "store") rows ≡ store_in words = store_in-found app words read rows e is (λ simple. (found simple).0) in
+    let named : met ≡ subcommand_in words = subcommand_in-met app words read met e is (λ simple. (found simple).1) in
+    starts-asked words start h (start_faults-none app words read e is free)
     (subst (λ (sub : Option (Text × List Row)). Asks words (store_in words) sub start) named
     (subst (λ (file : Option Text). Asks words file met start) stored asks))
 
 -- words whose subcommand, as it was met, asks for nothing
-pub starts-none : (app : App) (words : List Text) (rows : List Row) (met : Option (Text × List Row))
-    → app ≡ start_app → begins_with_help words ≡ false
-    → (is_simple_and_free app ≡ true → fault_of app words ≡ [])
-    → (is_simple app ≡ true → (rows ≡ matches_of app words) × (met ≡ subcommand_of app words))
+pub starts-none : (app : App) (words read : List Text) (rows : List Row) (met : Option (Text × List Row))
+    → app ≡ start_app → read ≡ start_words words → begins_with_help words ≡ false
+    → (is_simple_and_free app ≡ true → fault_of app read ≡ [])
+    → (is_simple app ≡ true → (rows ≡ matches_of app read) × (met ≡ subcommand_of app read))
     → AsksNone met → IsNoStart words
-starts-none app words rows met e h free found none =
-    let named : met ≡ subcommand_in words = subcommand_in-met app words met e (λ simple. (found simple).1) in
-    (h, inr (start_faults-none app words e free, subst AsksNone named none))
+starts-none app words read rows met e is h free found none =
+    let named : met ≡ subcommand_in words = subcommand_in-met app words read met e is (λ simple. (found simple).1) in
+    (h, inr (start_faults-none app words read e is free, subst AsksNone named none))
 
 -- ---- the subcommand that was met
 

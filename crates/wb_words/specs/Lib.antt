@@ -1,4 +1,5 @@
 pub mod Arguments
+pub mod Escapes
 pub mod Faults
 pub mod Service
 pub mod Start

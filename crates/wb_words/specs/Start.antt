@@ -7,6 +7,7 @@ use Rattle.clap.specs.Words.{App, IsAmong, Kinds, Row, Text, fault_of, first_of,
 use Rattle.clap.specs.declared.error.kind.ErrorKind.{ErrorKind}
 use Rattle.clap.specs.declared.error.kind.ErrorKind.TheVariants.{DisplayHelp}
 use Rattle.wb_words.specs.Arguments.{word_of}
+use Rattle.wb_words.specs.Escapes.{escaped, has_negative_value}
 use Rattle.wb_words.specs.Service.{serve_app, service_named}
 use Rattle.wb_words.specs.Usages.{is_query, with_arguments, with_wb_usages}
 use Rattle.wb_words.specs.declared.usage.ArgumentKind.TheVariants.{NamedWord}
@@ -33,22 +34,6 @@ abbrev pub begins_with_help : List Text → Bool
 begins_with_help [] = false
 begins_with_help (word ∷ words) = bytes_eq word (codes "help")
 
--- the faults that `clap` finds in the words; asking for help is one of them
-unfoldable pub start_faults : List Text → Kinds
-start_faults words = fault_of start_app words
-
--- the word after the option `--store`, if it is given
-unfoldable pub store_in : List Text → Option Text
-store_in words = first_of (codes "store") (matches_of start_app words)
-
--- the subcommand that the words name, with its arguments
-unfoldable pub subcommand_in : List Text → Option (Text × List Row)
-subcommand_in words = subcommand_of start_app words
-
--- the word after the option `--journal` of the subcommand, if it is given
-unfoldable pub journal_in : List Text → Option Text
-journal_in words = option_and_then (λ named. word_of (codes "journal") named.1) (subcommand_in words)
-
 -- how many words before the subcommand name the file that keeps the records
 abbrev pub store_words : List Text → ℕ
 store_words [] = 0
@@ -58,6 +43,26 @@ store_words (word ∷ words) = if bytes_eq word (codes "--store") then 2
 -- the words of a single command: those from the subcommand on
 abbrev pub single_words : List Text → List Text
 single_words words = drop (store_words words) words
+
+-- the words as they are read
+abbrev pub start_words : List Text → List Text
+start_words words = if has_negative_value (single_words words) then escaped words else words
+
+-- the faults that `clap` finds in the words; asking for help is one of them
+unfoldable pub start_faults : List Text → Kinds
+start_faults words = fault_of start_app (start_words words)
+
+-- the word after the option `--store`, if it is given
+unfoldable pub store_in : List Text → Option Text
+store_in words = first_of (codes "store") (matches_of start_app (start_words words))
+
+-- the subcommand that the words name, with its arguments
+unfoldable pub subcommand_in : List Text → Option (Text × List Row)
+subcommand_in words = subcommand_of start_app (start_words words)
+
+-- the word after the option `--journal` of the subcommand, if it is given
+unfoldable pub journal_in : List Text → Option Text
+journal_in words = option_and_then (λ named. word_of (codes "journal") named.1) (subcommand_in words)
 
 -- the first of these words is a subcommand that asks the office
 abbrev pub begin_with_query : List Text → Bool

@@ -14,6 +14,7 @@ use Rattle.wb_states.specs.declared.query.Query.{Query}
 use Rattle.wb_states.specs.declared.query.Query.TheVariants as query
 use Rattle.wb_words.specs.Arguments.{integer_of, number_of, optional_number_of, parts_of, named_source_of, word_of}
 use Rattle.wb_words.specs.Arguments.{words_of}
+use Rattle.wb_words.specs.Escapes.{line_words}
 use Rattle.wb_words.specs.Usages.{wb_app}
 use Rattle.wb_words.specs.declared.words.Invocation.{Invocation}
 use Rattle.wb_words.specs.declared.words.Invocation.TheVariants as invocation
@@ -192,10 +193,14 @@ abbrev pub unless_faulty : Kinds → Option Invocation → Option Invocation
 unless_faulty [] invocation = invocation
 unless_faulty (kind ∷ kinds) invocation = None
 
+-- what words ask for, as `clap` reads them
+unfoldable pub invocation_read : List Text → Option Invocation
+invocation_read words = unless_faulty (fault_of wb_app words)
+    (option_and_then invocation_named (subcommand_of wb_app words))
+
 -- what the words of a line ask for
 unfoldable pub invocation_in : List Text → Option Invocation
-invocation_in words = unless_faulty (fault_of wb_app words)
-    (option_and_then invocation_named (subcommand_of wb_app words))
+invocation_in words = invocation_read (line_words words)
 
 -- what is asked for is a query
 abbrev pub IsQuery : Invocation → Type 0

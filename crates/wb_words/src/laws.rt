@@ -159,7 +159,7 @@ pub fn numbers_are_read()
 {}
 
 /// Build priorities are read with a plus or a minus sign and leading zeros, from -2^63 to 2^63 - 1, and
-/// no others are. One with a minus sign comes after `--`: before it that word is an option.
+/// no others are.
 pub fn integers_are_read()
     // integers
     ensures plus { invocation_by (codes "build-priority a s v +7")
@@ -178,13 +178,39 @@ pub fn integers_are_read()
     // other words
     ensures too_great { invocation_by (codes "build-priority a s v 9223372036854775808") ≡ None }
     ensures too_small { invocation_by (codes "build-priority a s v -- -9223372036854775809") ≡ None }
-    ensures option { invocation_by (codes "build-priority a s v -5") ≡ None }
     ensures signs { invocation_by (codes "build-priority a s v -- +-5") ≡ None }
     ensures lone_sign { invocation_by (codes "build-priority a s v -") ≡ None }
     ensures number { invocation_by (codes "build-priority a s v 5x") ≡ None }
     // the arguments
     ensures missing { invocation_by (codes "build-priority a s v") ≡ None }
     ensures many { invocation_by (codes "build-priority a s v 5 6") ≡ None }
+{}
+
+/// A negative build priority that is the last word needs no `--` before it. Any other word of two or more bytes that
+/// begins with a hyphen is an option, as of other subcommands.
+pub fn negative_build_priorities_are_read()
+    // with and without `--`
+    ensures bare { invocation_by (codes "build-priority a s v -50")
+        ≡ Some (Command (BuildPriority (codes "a") (codes "s") (codes "v") (neg_ℤ (pos 50)))) }
+    ensures nought { invocation_by (codes "build-priority a s v -0")
+        ≡ Some (Command (BuildPriority (codes "a") (codes "s") (codes "v") (pos 0))) }
+    ensures zeros { invocation_by (codes "build-priority a s v -007")
+        ≡ Some (Command (BuildPriority (codes "a") (codes "s") (codes "v") (neg_ℤ (pos 7)))) }
+    ensures least { invocation_by (codes "build-priority a s v -9223372036854775808")
+        ≡ Some (Command (BuildPriority (codes "a") (codes "s") (codes "v")
+        (neg_ℤ (pos 9223372036854775808)))) }
+    ensures escaped { invocation_by (codes "build-priority a -- s v -5")
+        ≡ Some (Command (BuildPriority (codes "a") (codes "s") (codes "v") (neg_ℤ (pos 5)))) }
+    // other words
+    ensures too_small { invocation_by (codes "build-priority a s v -9223372036854775809") ≡ None }
+    ensures letters { invocation_by (codes "build-priority a s v -5x") ≡ None }
+    ensures signs { invocation_by (codes "build-priority a s v -+5") ≡ None }
+    ensures missing { invocation_by (codes "build-priority a s -5") ≡ None }
+    ensures many { invocation_by (codes "build-priority a s v -5 -6") ≡ None }
+    ensures early { invocation_by (codes "build-priority a s -5 v") ≡ None }
+    ensures option { invocation_by (codes "build-priority a s -v -5") ≡ None }
+    ensures other { invocation_by (codes "rebuild a s v -1") ≡ None }
+    ensures note { invocation_by (codes "fail a s v -1") ≡ None }
 {}
 
 /// After `--` each word is an argument, whatever its bytes are, and so is what comes after `--after=`:
@@ -350,6 +376,12 @@ pub fn single_commands_are_read()
     ensures stored { start_faults (codes "--store" ∷ codes "wb.db" ∷ codes "fail" ∷ codes "a" ∷ codes "s" ∷ codes "1" ∷ codes "a  b"
         ∷ codes "" ∷ []) ≡ [] }
     ensures file { store_in (codes "--store" ∷ codes "wb.db" ∷ codes "item" ∷ codes "a" ∷ codes "s" ∷ []) ≡ Some (codes "wb.db") }
+    // a negative build priority
+    ensures negative { (given : Bor (List (Bor Text)))
+        → map (λ word. word.now) given.now ≡ codes "build-priority" ∷ codes "a" ∷ codes "s" ∷ codes "1" ∷ codes "-50" ∷ []
+        → Starts (codes "build-priority" ∷ codes "a" ∷ codes "s" ∷ codes "1" ∷ codes "-50" ∷ []) (CarryOut None given) }
+    ensures negative_stored { start_faults (codes "--store" ∷ codes "wb.db" ∷ codes "build-priority" ∷ codes "a" ∷ codes "s"
+        ∷ codes "1" ∷ codes "-50" ∷ []) ≡ [] }
     // a number and a part are read later
     ensures number { start_faults (codes "built" ∷ codes "one" ∷ []) ≡ [] }
     ensures part { start_faults (codes "merge" ∷ codes "S" ∷ codes "amd64" ∷ []) ≡ [] }
@@ -357,6 +389,7 @@ pub fn single_commands_are_read()
     ensures lacking { IsNoStart (codes "item" ∷ codes "amd64" ∷ []) }
     ensures many { IsNoStart (codes "queue" ∷ codes "amd64" ∷ codes "i386" ∷ []) }
     ensures option { IsNoStart (codes "next" ∷ codes "amd64" ∷ codes "-b1" ∷ []) }
+    ensures negative_option { IsNoStart (codes "build-priority" ∷ codes "-5" ∷ codes "s" ∷ codes "1" ∷ codes "5" ∷ []) }
     ensures behind { IsNoStart (codes "queue" ∷ codes "amd64" ∷ codes "--store=a" ∷ []) }
     ensures escape { IsNoStart (codes "--" ∷ codes "queue" ∷ codes "amd64" ∷ []) }
 {}

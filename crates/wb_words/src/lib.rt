@@ -4,6 +4,7 @@
 
 mod argument;
 mod builder;
+mod escape;
 mod fault;
 pub mod laws;
 mod lists;

@@ -6,9 +6,10 @@ ghost use Rattle.clap.specs.declared.error.kind.ErrorKind.TheVariants.{OutOfMemo
 ghost use Rattle.wb_words.specs.Arguments.{word_of};
 ghost use Rattle.wb_words.specs.Service.{serve_app};
 ghost use Rattle.wb_words.specs.Start.{Asks, AsksNone, IsNoStart, Names, NamesNone, Starts};
-ghost use Rattle.wb_words.specs.Start.{begin_with_query, begins_with_help, single_words, start_app, store_words, with_journal};
+ghost use Rattle.wb_words.specs.Start.{begin_with_query, begins_with_help, single_words, start_app, start_words, store_words, with_journal};
 ghost use Rattle.wb_words.specs.declared.start.Start.TheVariants.{Ask, CarryOut};
 
+use crate::escape::{escaped, has_negative_value};
 use crate::query::is_query;
 use crate::service::{serve_command, service_of};
 use crate::tree::{with_arguments, with_line_subcommands};
@@ -138,8 +139,8 @@ The commands are:
           Example: rebuild amd64 hello 1.0-1 1 rebuild against libfoo2
   build-priority ARCH SOURCE VERSION VALUE
           Gives a source package another build priority, from -1000 to 1000. The
-          greatest is built first. A negative VALUE comes after the word --
-          Example: build-priority amd64 hello 1.0-1 -- -50
+          greatest is built first
+          Example: build-priority amd64 hello 1.0-1 -50
   merge SOURCESFILE PART..
           Brings the records in line with the lists of the archive. A PART is
           ARCH=PACKAGESFILE. Give one for each architecture
@@ -174,8 +175,8 @@ TAKE is the take number in the answer to next or take. An argument in brackets
 may be left out. An argument that ends in .. takes several words.
 
 Spaces and tabs separate the words of a line, and there are no quotes. A word of
-two or more bytes that begins with a hyphen is an option. After the word -- it
-is an argument.
+two or more bytes that begins with a hyphen is an option, but for a negative
+VALUE of build-priority. After the word -- it is an argument.
 ";
 
 /// Whether the first word is `help`.
@@ -267,6 +268,19 @@ fn single_words<'a>(words: &'a [&'a str]) -> &'a [&'a str]
 {
     let at = store_words(words).min(words.len());
     &words[at..]
+}
+
+/// The words as they are read. Those of a negative build priority are kept until the program ends, since what they ask for
+/// is read of them. The only error is that there is no memory for them.
+fn start_words<'a>(alloc: Global, words: &'a [&'a str]) -> Result<&'a [&'a str], AllocError>
+    ensures value { IfOk result (λ read. map (λ word. word.now) read.now
+        ≡ start_words (map (λ word. word.now) words.entry.now)) }
+{
+    if has_negative_value(single_words(words)) {
+        Ok(escaped(alloc, words)?.leak())
+    } else {
+        Ok(words)
+    }
 }
 
 /// Whether the first of the words is a subcommand that asks the office.
@@ -366,7 +380,8 @@ fn started<'a>(
 /// the records. `serve` wants `--port` with a number from 1 to 65535, and takes `--requests` with one from 1 to 1000000,
 /// each in decimal digits after at most one plus sign. `--journal FILE`, after `run` or `serve`, names the file to which a
 /// line for each accepted command is appended. Each subcommand of a line is one here too, with its arguments: what
-/// `clap` does not test of them, numbers and the parts of a merge, is read when the command is carried out. The error is
+/// `clap` does not test of them, numbers and the parts of a merge, is read when the command is carried out. A negative
+/// build priority may stand without `--`, as the last word. The error is
 /// that of `clap`, with a text for the terminal: the words ask for nothing, or there is no memory to read them, which may
 /// come at any words. The grammar is this project's own.
 pub fn start_of<'a>(alloc: Global, words: &'a [&'a str]) -> Result<Start<'a>, Error>
@@ -377,7 +392,8 @@ pub fn start_of<'a>(alloc: Global, words: &'a [&'a str]) -> Result<Start<'a>, Er
     if begins_with_help(words) {
         return Ok(Start::Help);
     }
-    match start_app(alloc)?.try_get_matches_from(words) {
+    let read = start_words(alloc, words)?;
+    match start_app(alloc)?.try_get_matches_from(read) {
         Ok(matches) => started(alloc, words, &matches),
         Err(error) => match error.kind() {
             ErrorKind::DisplayHelp => Ok(Start::Help),

@@ -2,10 +2,12 @@
 ghost use Rattle.std.specs.Prelude.{◌≡◌, ◌≢◌, None, Some, map, IfErr, IfOk};
 ghost use Rattle.clap.specs.Words.{found_of, rows_of};
 ghost use Rattle.wb_words.specs.declared.fault.WordsFault.TheVariants.{Memory};
+ghost use Rattle.wb_words.specs.Escapes.{escaped};
 ghost use Rattle.wb_words.specs.Faults.{Reads};
-ghost use Rattle.wb_words.specs.Words.{command_named, invocation_in, invocation_named};
+ghost use Rattle.wb_words.specs.Words.{command_named, invocation_in, invocation_named, invocation_read};
 ghost use Rattle.wb_words.specs.Words.{other_invocation};
 
+use crate::escape::{escaped, has_negative_value};
 use crate::message::malformed_text;
 use crate::tree::{arguments_of, subcommand_app, wb_app};
 use crate::{WordsFault, builder, lists, operator, query};
@@ -99,20 +101,13 @@ fn invocation_named(
     }
 }
 
-/// Reads the words of one line, of which the first is the subcommand.
-///
-/// Each word is one argument, whatever bytes it has. One space joins the words of a last argument, but
-/// each part of a merge is an argument of its own. A word of two or more bytes that begins with a
-/// hyphen is an option, unless the word `--` came before it. The only option is `--after` of `next`.
-/// Numbers are whole, from 0 to 2^64 - 1, in decimal digits, after at most one plus sign. A build
-/// priority is from -2^63 to 2^63 - 1, after at most one plus or minus sign; one with a minus sign comes
-/// after `--`. The errors are `NoCommand` if the words are no command, and `Memory`, which may come at
-/// any words. The grammar is this project's own.
-pub fn invocation_of<'a>(alloc: Global, words: &'a [&'a str]) -> Result<Invocation, WordsFault>
+/// What the words of one line ask for, of which the first is the subcommand, as `clap` reads them. The errors are
+/// `NoCommand` if the words are no command, and `Memory`, which may come at any words.
+fn invocation_read<'a>(alloc: Global, words: &'a [&'a str]) -> Result<Invocation, WordsFault>
     ensures value { IfOk result (λ invocation.
-        invocation_in (map (λ word. word.now) words.entry.now) ≡ Some invocation) }
+        invocation_read (map (λ word. word.now) words.entry.now) ≡ Some invocation) }
     ensures refused { IfErr result (λ fault. fault ≢ Memory
-        → invocation_in (map (λ word. word.now) words.entry.now) ≡ None) }
+        → invocation_read (map (λ word. word.now) words.entry.now) ≡ None) }
 {
     let [name, given @ ..] = words else {
         return Err(WordsFault::NoCommand);
@@ -122,11 +117,56 @@ pub fn invocation_of<'a>(alloc: Global, words: &'a [&'a str]) -> Result<Invocati
     invocation_named(alloc, name, &arguments)
 }
 
-/// Why words are no command, for a person: what `clap` says of them, or which argument is malformed, and what it
-/// has to be. The error is that there is no memory for the text.
-pub fn fault_of<'a>(alloc: Global, words: &'a [&'a str]) -> Result<String, AllocError> {
+/// What the words of one line ask for, as if `--` stood before the last of them. The errors are those of `invocation_read`.
+fn invocation_escaped(alloc: Global, words: &[&str]) -> Result<Invocation, WordsFault>
+    ensures value { IfOk result (λ invocation.
+        invocation_read (escaped (map (λ word. word.now) words.now)) ≡ Some invocation) }
+    ensures refused { IfErr result (λ fault. fault ≢ Memory
+        → invocation_read (escaped (map (λ word. word.now) words.now)) ≡ None) }
+{
+    let read = escaped(alloc, words)?;
+    invocation_read(alloc, &read)
+}
+
+/// Reads the words of one line, of which the first is the subcommand.
+///
+/// Each word is one argument, whatever bytes it has. One space joins the words of a last argument, but
+/// each part of a merge is an argument of its own. A word of two or more bytes that begins with a
+/// hyphen is an option, unless the word `--` came before it. The only option is `--after` of `next`.
+/// Numbers are whole, from 0 to 2^64 - 1, in decimal digits, after at most one plus sign. A build
+/// priority is from -2^63 to 2^63 - 1, after at most one plus or minus sign; one with a minus sign may
+/// stand without `--`, as the last word. The errors are `NoCommand` if the words are no command, and
+/// `Memory`, which may come at any words. The grammar is this project's own.
+#[tactic(auto, unfolding(crate::specs::Words::invocation_in))]
+pub fn invocation_of<'a>(alloc: Global, words: &'a [&'a str]) -> Result<Invocation, WordsFault>
+    ensures value { IfOk result (λ invocation.
+        invocation_in (map (λ word. word.now) words.entry.now) ≡ Some invocation) }
+    ensures refused { IfErr result (λ fault. fault ≢ Memory
+        → invocation_in (map (λ word. word.now) words.entry.now) ≡ None) }
+{
+    if has_negative_value(words) {
+        invocation_escaped(alloc, words)
+    } else {
+        invocation_read(alloc, words)
+    }
+}
+
+/// Why words are no command, as `clap` reads them: what it says of them, or which argument is malformed, and what it has to
+/// be. The error is that there is no memory for the text.
+fn fault_read<'a>(alloc: Global, words: &'a [&'a str]) -> Result<String, AllocError> {
     match wb_app(alloc)?.try_get_matches_from(words) {
         Ok(matches) => malformed_text(alloc, &matches),
         Err(error) => format!(in alloc; "{error}"),
+    }
+}
+
+/// Why words are no command, for a person: what `clap` says of them, or which argument is malformed, and what it
+/// has to be. The error is that there is no memory for the text.
+pub fn fault_of<'a>(alloc: Global, words: &'a [&'a str]) -> Result<String, AllocError> {
+    if has_negative_value(words) {
+        let read = escaped(alloc, words)?;
+        fault_read(alloc, &read)
+    } else {
+        fault_read(alloc, words)
     }
 }

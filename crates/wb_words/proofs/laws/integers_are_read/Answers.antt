@@ -15,7 +15,6 @@ returns c = record {
   least = refl;
   too_great = refl;
   too_small = refl;
-  option = refl;
   signs = refl;
   lone_sign = refl;
   number = refl;

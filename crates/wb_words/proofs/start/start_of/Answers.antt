@@ -6,10 +6,10 @@ use Rattle.wb_words.proofs.start.start_of.Goals as goal
 
 pub returns-in-Ok : goal.returns-in-Ok
 returns-in-Ok c = record {
-  value = IfOk-weaker c.started.result _ _ (λ start asks. starts-met _ _ _ _ start c.in_ok-start_app.ensures.value
+  value = IfOk-weaker c.started.result _ _ (λ start asks. starts-met _ _ _ _ _ start c.in_ok-start_app.ensures.value c.in_ok-read.ensures.value
       (sym c.begins_with_help.ensures.value ∙ c.if-begins_with_help.false) c.in-Ok.ensures.kinds c.in-Ok.ensures.matches asks)
       c.started.ensures.value;
-  refused = IfErr-weaker c.started.result _ _ (λ error none other. starts-none _ _ _ _ c.in_ok-start_app.ensures.value
+  refused = IfErr-weaker c.started.result _ _ (λ error none other. starts-none _ _ _ _ _ c.in_ok-start_app.ensures.value c.in_ok-read.ensures.value
       (sym c.begins_with_help.ensures.value ∙ c.if-begins_with_help.false) c.in-Ok.ensures.kinds c.in-Ok.ensures.matches
       (none other))
       c.started.ensures.refused;
@@ -17,7 +17,7 @@ returns-in-Ok c = record {
 
 pub returns-in-DisplayHelp : goal.returns-in-DisplayHelp
 returns-in-DisplayHelp c = record {
-  value = inr (start_faults-help _ _ c.in-Err.error c.in_ok-start_app.ensures.value c.in-Err.ensures.kinds (sym c.kind.ensures ∙ c.in-DisplayHelp.is));
+  value = inr (start_faults-help _ _ _ c.in-Err.error c.in_ok-start_app.ensures.value c.in_ok-read.ensures.value c.in-Err.ensures.kinds (sym c.kind.ensures ∙ c.in-DisplayHelp.is));
   refused = tt;
 }
 
@@ -28,7 +28,7 @@ returns c = record {
     sym c.begins_with_help.ensures.value ∙ c.if-begins_with_help.false,
     inl (
       kind_of c.in-Err.error,
-      start_faults-failed _ _ c.in-Err.error c.in_ok-start_app.ensures.value c.in-Err.ensures.kinds other,
+      start_faults-failed _ _ _ c.in-Err.error c.in_ok-start_app.ensures.value c.in_ok-read.ensures.value c.in-Err.ensures.kinds other,
       λ is_help. c.in_default.not-DisplayHelp (c.kind.ensures ∙ is_help),
     ),
   );
