@@ -13,6 +13,7 @@ use Rattle.wb_states.specs.Lookups.{entry_of}
 use Rattle.wb_states.specs.Machine.{Machine}
 use Rattle.wb_store.specs.Settled.{IsFirstOffice}
 use Rattle.wb_store.specs.FirstOpening.{BringsOver, ReadsOffice}
+use Rattle.wb_store.specs.Others.{KeepsOthersOver}
 use Rattle.wb_store.specs.Upgrading.{HasFirst, UpgradesOffice}
 use Rattle.wb_store.proofs.FindsLemmas.{stays-now, stays-open}
 use Rattle.wb_store.proofs.RefusalLemmas.{idle_kept, idle_stays}
@@ -30,6 +31,7 @@ module _ {S X : Type 0} {g : Ghosts S} {old : Held S} (idle : (state g old).in_t
     was_clean = was_clean (state g old) (state g new) reads.survives;
     limit = reads.survives.limit;
     brought = λ clean machine sound first. tt;
+    others = λ clean machine first. tt;
     fails = λ clean machine sound first. inl (reads.fails clean first.office.stands.has machine sound first.office.stands tt);
     refuses = λ clean first. inl (reads.err clean first);
     crash = λ clean machine first db may. elim (reads.survives.crash clean db may) [
@@ -63,6 +65,7 @@ module _ {S X : Type 0} {g : Ghosts S} {old : Held S} (idle : (state g old).in_t
       was_clean = was_clean (state g old) (state g mid) reads.survives;
       limit = reads.survives.limit;
       brought = λ clean machine sound first. tt;
+      others = λ clean machine first. tt;
       fails = λ clean machine sound first. absurd (both_ways (state g mid).in_transaction (idle_stays g old mid idle (reads.same clean first.office.stands.has)) inside);
       refuses = λ clean first. inr ((reads.good clean first).0.0, (reads.good clean first).1, λ machine has. absurd (both_ways (state g mid).in_transaction (idle_stays g old mid idle (reads.same clean first)) inside));
       crash = λ clean machine first db may. inl (left_before clean machine first db may);
@@ -78,6 +81,7 @@ module _ {S X : Type 0} {g : Ghosts S} {old : Held S} (idle : (state g old).in_t
         was_clean = λ clean. was_clean (state g old) (state g mid) reads.survives (upgrades.was_clean clean);
         limit = upgrades.limit ∙ reads.survives.limit;
         brought = λ clean machine sound first. tt;
+        others = λ clean machine first. tt;
         fails = λ clean machine sound first.
             let before = upgrades.was_clean clean in
             inr (mid, reads.same before first.office.stands.has, upgrades.err clean machine (first_stays before machine first) (reads.told before first.office.stands.has machine first.office.stands).1);
@@ -111,6 +115,11 @@ module _ {S X : Type 0} {g : Ghosts S} {old : Held S} (idle : (state g old).in_t
             let before = upgrades.was_clean clean in
             let told = reads.told before first.office.stands.has machine first.office.stands in
             (told.0, upgrades.upgraded clean machine (first_stays before machine first) told.1);
+        others = λ clean machine first.
+            let before = upgrades.was_clean clean in
+            let told = reads.told before first.office.stands.has machine first.office.stands in
+            subst (λ db. KeepsOthersOver db (state g new).now) (stays-now g old mid (reads.same before first.office.stands.has))
+            (upgrades.others clean machine (first_stays before machine first) told.1);
         fails = λ clean machine sound first. tt;
         refuses = λ clean first. tt;
         crash = λ clean machine first db may.

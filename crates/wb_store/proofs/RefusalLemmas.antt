@@ -249,6 +249,7 @@ module _ {S : Type 0} {g : Ghosts S} {old new : Held S} where
     };
     crash = λ clean is_open some db may. inl (no_more g old new h.survives office clean db may);
     others = λ clean is_open lacks. no_office lacks office;
+    others_first = λ clean machine first. absurd (first_no_office old.schema first.office.stands.has office);
     idle = λ clean is_open. idle_stays g old new idle (h.good clean office).2;
   }
   found_office (Err fault) idle office h = record {
@@ -287,6 +288,7 @@ module _ {S : Type 0} {g : Ghosts S} {old new : Held S} where
     };
     crash = λ clean is_open some db may. inl (no_more g old new h.survives office clean db may);
     others = λ clean is_open lacks. tt;
+    others_first = λ clean machine first. tt;
     idle = λ clean is_open. idle_kept (state g old) (state g new) idle (h.kept clean office);
   }
     where
@@ -329,6 +331,7 @@ module _ {S : Type 0} {g : Ghosts S} {old new : Held S} where
     };
     crash = λ clean is_open some db may. elim (h.survives.crash clean db may) [ inl was ↦ inl was | inr none ↦ absurd none ];
     others = λ clean is_open lacks. tt;
+    others_first = λ clean machine first. tt;
     idle = λ clean is_open. idle_by (h.why clean);
   }
     where
@@ -419,6 +422,7 @@ module _ {S : Type 0} {g : Ghosts S} {old new : Held S} (none : LacksOffice old.
         let has = (settled clean is_open).holds.stands.has in
         subst (λ (db : Database). KeepsRows old.schema.tables (state g old).now.trees db.trees) (sym (stays-now g mid new (h.good clean has).2))
         (makes.made (h.was_clean clean) (room (state g old) none live is_open)).1;
+    others_first = λ clean machine first. absurd (first_no_lack old.schema first.office.stands.has none);
     idle = λ clean is_open. (passed clean is_open).1.idle;
   }
     where
@@ -453,6 +457,7 @@ module _ {S : Type 0} {g : Ghosts S} {old new : Held S} (none : LacksOffice old.
     crash = λ clean is_open some db may.
         made_or_left (makes.crash (h.was_clean clean) (room (state g old) none live is_open) db (no_more g mid new h.survives (settled clean is_open).holds.stands.has clean db may));
     others = λ clean is_open lacks. tt;
+    others_first = λ clean machine first. tt;
     idle = λ clean is_open. (h.fails clean empty_office IsConsistent-empty_office (settled clean is_open)).0.idle;
   }
     where
@@ -483,6 +488,7 @@ module _ {S : Type 0} {g : Ghosts S} {old new : Held S} (none : LacksOffice old.
     names = names_plain fault (λ clean is_open. plain_by fault e Office is);
     crash = λ clean is_open some db may. made_or_left (makes.crash clean (room (state g old) none live is_open) db may);
     others = λ clean is_open lacks. tt;
+    others_first = λ clean machine first. tt;
     idle = λ clean is_open. makes.idle clean;
   }
 
@@ -536,6 +542,7 @@ module _ {S : Type 0} {g : Ghosts S} {old new : Held S} (first : HasFirstOffice 
     };
     crash = leaves_some h;
     others = λ clean is_open lacks. absurd (first_no_lack old.schema first lacks);
+    others_first = h.others;
     idle = λ clean is_open. h.idle clean first;
   }
   first_brought (Err fault) h = record {
@@ -572,6 +579,7 @@ module _ {S : Type 0} {g : Ghosts S} {old new : Held S} (first : HasFirstOffice 
     };
     crash = leaves_some h;
     others = λ clean is_open lacks. tt;
+    others_first = λ clean machine first. tt;
     idle = λ clean is_open. h.idle clean first;
   }
     where

@@ -39,6 +39,7 @@ use Rattle.std.specs.Prelude.{⊤}
 use Rattle.wb_store.specs.Calls.{Changes}
 use Rattle.wb_store.specs.Faults.{answer_on}
 use Rattle.wb_store.specs.MergeLaws.{survives_itself}
+use Rattle.wb_store.specs.Others.{same_schema}
 use Rattle.wb_store.specs.Stands.{HoldsRows, StandsFor, arch_rows, builder_rows, office_row, office_row_in}
 use Rattle.wb_store.specs.Settled.{IsFirstOffice}
 use Rattle.wb_store.specs.Upgrading.{FailsToMove, IsBetween, IsInside, IsMoved, IsUpgrading, Moves, with_records, without_records}
@@ -48,6 +49,7 @@ use Rattle.wb_store.specs.declared.format.Format.TheVariants.{One}
 use Rattle.wb_store.proofs.ChangeRowLemmas.{office_typed, typed_at}
 use Rattle.wb_store.proofs.MapLemmas.{all_inserted, inserted}
 use Rattle.wb_store.proofs.NumberedLemmas.{numbered_of}
+use Rattle.wb_store.proofs.OthersLemmas.{HasAllTables, office_either, over_kept, over_made, over_same, over_set, over_then, same_has_all, states_either}
 use Rattle.wb_store.proofs.PreparingLemmas.{no_records_held}
 use Rattle.wb_store.proofs.RenewalLemmas.{only_row}
 use Rattle.wb_store.proofs.StaysLemmas.{was_clean}
@@ -58,10 +60,11 @@ if_err : {A E : Type 0} {P Q : E → Type 0} (r : Result A E) → ((e : E) → P
 if_err (Ok x) follows h = tt
 if_err (Err e) follows h = follows e h
 
-module _ {S : Type 0} {g : Ghosts S} {Before Middle After : Database → Type 0} {old mid new : Held S} where
+module _ {S : Type 0} {g : Ghosts S} {first_become then_become : Schema → Schema} {Before Middle After : Database → Type 0} {old mid new : Held S} where
   -- one that succeeded, and the next
-  pub moves_then : {A B : Type 0} {x : A} {r : Result B StoreFault} → Moves g Before Middle old mid (Ok x) → Moves g Middle After mid new r → Moves g Before After old new r
-  moves_then {r = r} one two = record {
+  pub moves_then : {A B : Type 0} {x : A} {r : Result B StoreFault} → HasAllTables first_become → Moves g first_become Before Middle old mid (Ok x) → Moves g then_become Middle After mid new r
+      → Moves g (λ schema. then_become (first_become schema)) Before After old new r
+  moves_then {r = r} all one two = record {
     ok = λ clean inside. follows_on r (λ before. one.ok (two.was_clean clean) inside before) (λ first. two.ok clean (within first));
     err = λ clean inside before.
         let first = one.ok (two.was_clean clean) inside before in
@@ -74,17 +77,18 @@ module _ {S : Type 0} {g : Ghosts S} {Before Middle After : Database → Type 0}
     limit = two.limit ∙ one.limit;
   }
     where
-      within : IsMoved Middle (state g old) (state g mid) → IsInside (state g mid)
+      within : IsMoved first_become Middle (state g old) (state g mid) → IsInside (state g mid)
       within first = record { is_open = first.shown.is_open; inside = first.shown.mode }
 
-      follows_on : {B : Type 0} (r : Result B StoreFault) → (Before (state g old).now → IsMoved Middle (state g old) (state g mid))
-          → (IsMoved Middle (state g old) (state g mid) → OnOk r (Middle (state g mid).now → IsMoved After (state g mid) (state g new)))
-          → OnOk r (Before (state g old).now → IsMoved After (state g old) (state g new))
+      follows_on : {B : Type 0} (r : Result B StoreFault) → (Before (state g old).now → IsMoved first_become Middle (state g old) (state g mid))
+          → (IsMoved first_become Middle (state g old) (state g mid) → OnOk r (Middle (state g mid).now → IsMoved then_become After (state g mid) (state g new)))
+          → OnOk r (Before (state g old).now → IsMoved (λ schema. then_become (first_become schema)) After (state g old) (state g new))
       follows_on (Ok y) begins follows = λ before.
           let first = begins before in
           let second = follows first first.reached in
           record {
             reached = second.reached;
+            others = over_then (state g old).now (state g mid).now (state g new).now all first.others second.others;
             shown = record {
               was_open = first.shown.was_open;
               is_open = second.shown.is_open;
@@ -97,10 +101,11 @@ module _ {S : Type 0} {g : Ghosts S} {Before Middle After : Database → Type 0}
       follows_on (Err e) begins follows = tt
 
 -- no step at all
-pub moves_none : {S A : Type 0} {g : Ghosts S} {Before After : Database → Type 0} {old : Held S} {x : A} → ((db : Database) → Before db → After db) → Moves g Before After old old (Ok x)
+pub moves_none : {S A : Type 0} {g : Ghosts S} {Before After : Database → Type 0} {old : Held S} {x : A} → ((db : Database) → Before db → After db) → Moves g same_schema Before After old old (Ok x)
 moves_none {g = g} {old = old} follows = record {
   ok = λ clean inside before. record {
     reached = follows (state g old).now before;
+    others = over_same (state g old).now;
     shown = record { was_open = inside.is_open; is_open = inside.is_open; now_is = refl; committed_is = refl; mode = inside.inside };
     marks = refl;
   };
@@ -111,9 +116,9 @@ moves_none {g = g} {old = old} follows = record {
 }
 
 -- one that failed is the last
-pub moves_failed : {S A B : Type 0} {g : Ghosts S} {Before Middle After : Database → Type 0} {old new : Held S} {fault : StoreFault} {r : Result B StoreFault} → Moves {A = A} g Before Middle old new (Err fault)
-    → r ≡ Err fault → Moves g Before After old new r
-moves_failed {B = B} {g = g} {Before = Before} {After = After} {old = old} {new = new} one is = subst (λ (r : Result B StoreFault). Moves g Before After old new r) (sym is) (record {
+pub moves_failed : {S A B : Type 0} {g : Ghosts S} {become whole : Schema → Schema} {Before Middle After : Database → Type 0} {old new : Held S} {fault : StoreFault} {r : Result B StoreFault}
+    → Moves {A = A} g become Before Middle old new (Err fault) → r ≡ Err fault → Moves g whole Before After old new r
+moves_failed {B = B} {g = g} {whole = whole} {Before = Before} {After = After} {old = old} {new = new} one is = subst (λ (r : Result B StoreFault). Moves g whole Before After old new r) (sym is) (record {
   ok = λ clean inside. tt;
   err = one.err;
   survives = one.survives;
@@ -135,10 +140,10 @@ err_on g sql params old new table names inside (Err e) h = (old, sql, params, e,
 module _ {S A : Type 0} {g : Ghosts S} {sql : List ℕ} {params : Row} {old new : Held S} {r : Result A Error} {answer : Result A StoreFault} {Before After : Database → Type 0} where
   -- what a statement that writes makes of the database
   pub statement_moves : (table : named.Table) → IsUpgrading (state g old).now.schema sql params table → (Done : State → State → Type 0) → (Before (state g old).now → IsWriting old.schema sql)
-      → (Before (state g old).now → Done (state g old) (state g new) → IsMoved After (state g old) (state g new))
-      → RunsStatement g sql params old new r → (HasCleanDisk (state g new) → OnOk r (Done (state g old) (state g new))) → answer ≡ answer_on r table → Moves g Before After old new answer
+      → (Before (state g old).now → Done (state g old) (state g new) → IsMoved same_schema After (state g old) (state g new))
+      → RunsStatement g sql params old new r → (HasCleanDisk (state g new) → OnOk r (Done (state g old) (state g new))) → answer ≡ answer_on r table → Moves g same_schema Before After old new answer
   statement_moves table names Done writes makes ran ok is =
-      subst (λ (t : Result A StoreFault). Moves g Before After old new t) (sym is) (record {
+      subst (λ (t : Result A StoreFault). Moves g same_schema Before After old new t) (sym is) (record {
         ok = λ clean inside. ok_on _ table r (on_ok r (λ done before. makes before done) (ok clean));
         err = λ clean inside before. err_on g sql params old new table names inside.inside r (ran.err clean inside.inside);
         survives = λ clean inside before. survives_weaker (state g old) (state g new) _ _ (λ clean db none. none (writes before)) ran.survives;
@@ -148,11 +153,12 @@ module _ {S A : Type 0} {g : Ghosts S} {sql : List ℕ} {params : Row} {old new 
 
 -- a change of a state moves a database that stands for it
 pub changes_move : {S A : Type 0} {g : Ghosts S} {write : OfficeWrite} {Allows : Machine → Type 0} {after : Machine → Machine} {old new : Held S} {r : Result A StoreFault} (machine : Machine) → Allows machine
-    → ((schema : Schema) (sql : List ℕ) → IsTextOfWrite write sql → IsUpgrading schema sql (written_by write) (table_written write)) → Changes g write Allows after old new r → Moves g (StandsFor machine) (StandsFor (after machine)) old new r
+    → ((schema : Schema) (sql : List ℕ) → IsTextOfWrite write sql → IsUpgrading schema sql (written_by write) (table_written write)) → Changes g write Allows after old new r
+    → Moves g same_schema (StandsFor machine) (StandsFor (after machine)) old new r
 changes_move {g = g} {old = old} {new = new} {r = r} machine allows names changes = record {
   ok = λ clean inside. on_ok r (λ becomes stands.
       let made = becomes machine stands allows in
-      record { reached = made.stands; shown = made.shown; marks = made.marks }) (changes.ok clean);
+      record { reached = made.stands; others = over_kept (state g old).now (state g new).now made.others; shown = made.shown; marks = made.marks }) (changes.ok clean);
   err = λ clean inside stands. if_err r (λ fault failed. (old, failed.sql, _, failed.error, _, inside.inside, refl, names (state g old).now.schema failed.sql failed.text, failed.failed, failed.fault_is)) (changes.err clean inside.inside);
   survives = λ clean inside stands. survives_weaker (state g old) (state g new) _ _ (λ clean db none. none stands.has) changes.survives;
   was_clean = was_clean (state g old) (state g new) changes.survives;
@@ -184,10 +190,10 @@ module _ {S : Type 0} (g : Ghosts S) (old new : Held S) (machine : Machine) wher
 
   pub tables_moved : {A : Type 0} {r : Result A Error} {answer : Result A StoreFault}
       → ((base : Schema) → HasFirstOffice base → IsNumbered base → Makes g base [] (MakesTables base.tables (with_second base) (source_record ∷ [])) old new r)
-      → answer ≡ answer_on r on.SourceRecord → Moves g (IsFirstOffice machine) (IsBetween machine (office_row_in One machine) IsStored) old new answer
+      → answer ≡ answer_on r on.SourceRecord → Moves g with_second (IsFirstOffice machine) (IsBetween machine (office_row_in One machine) IsStored) old new answer
   tables_moved {A} {r} {answer} makes is =
       let anywhere = makes first_schema first_office first_numbered in
-      subst (λ (t : Result A StoreFault). Moves g (IsFirstOffice machine) (IsBetween machine (office_row_in One machine) IsStored) old new t) (sym is) (record {
+      subst (λ (t : Result A StoreFault). Moves g with_second (IsFirstOffice machine) (IsBetween machine (office_row_in One machine) IsStored) old new t) (sym is) (record {
         ok = λ clean inside. ok_on _ on.SourceRecord r (made_on r (λ office_is. (there office_is).made clean none_made));
         err = λ clean inside office_is. fails_on r ((there office_is).err clean inside.inside none_made);
         survives = λ clean inside office_is. survives_weaker (state g old) (state g new) _ _ (λ clean db other. other none_made) (there office_is).survives;
@@ -202,8 +208,10 @@ module _ {S : Type 0} (g : Ghosts S) (old new : Held S) (machine : Machine) wher
       none_made = record { schema_is = refl; empty = tt }
 
       made_on : (r : Result A Error) → (IsFirstOffice machine (state g old).now → OnOk r (MakesTables old.schema.tables (with_second old.schema) (source_record ∷ []) (state g old) (state g new)))
-          → OnOk r (IsFirstOffice machine (state g old).now → IsMoved (IsBetween machine (office_row_in One machine) IsStored) (state g old) (state g new))
-      made_on (Ok x) h = λ office_is. let made = h office_is in record { reached = between_made office_is made; shown = made.shown; marks = made.marks }
+          → OnOk r (IsFirstOffice machine (state g old).now → IsMoved with_second (IsBetween machine (office_row_in One machine) IsStored) (state g old) (state g new))
+      made_on (Ok x) h = λ office_is.
+          let made = h office_is in
+          record { reached = between_made office_is made; others = over_made (state g old) (state g new) (source_record ∷ []) made; shown = made.shown; marks = made.marks }
       made_on (Err e) h = tt
 
       fails_on : (r : Result A Error) → IfErr r (FailsAt g old new) → IfErr (answer_on r on.SourceRecord) (FailsToMove g old new)
@@ -217,7 +225,7 @@ none_left [] = refl
 none_left (row ∷ rows) = none_left rows
 
 module _ (machine : Machine) (counts : Row) (sql : List ℕ) (old new : State) where
-  states_cleared : DeletesAmong source_state sql [] 0 → IsBetween machine counts IsStored old.now → Deletes sql [] old new → IsMoved (IsBetween machine counts (λ rows. rows ≡ [])) old new
+  states_cleared : DeletesAmong source_state sql [] 0 → IsBetween machine counts IsStored old.now → Deletes sql [] old new → IsMoved same_schema (IsBetween machine counts (λ rows. rows ≡ [])) old new
   states_cleared text was does =
       let schema = old.now.schema in
       let is = was.old.has in
@@ -238,13 +246,14 @@ module _ (machine : Machine) (counts : Row) (sql : List ℕ) (old new : State) w
           sources = other_rows old new table rows scratch_source is made was.has.source_is (λ e. omega (arith, e)) ∙ was.sources;
           binaries = other_rows old new table rows scratch_binary is made was.has.binary_is (λ e. omega (arith, e)) ∙ was.binaries;
         };
+        others = over_set old new table rows is (states_either schema) made;
         shown = made.shown;
         marks = made.marks;
       }
 
 pub states_moved : {S A : Type 0} {g : Ghosts S} {old new : Held S} {r : Result A Error} {answer : Result A StoreFault} {sql : List ℕ} {params : Row} (machine : Machine) (counts : Row) → DeletesAmong source_state sql [] 0
     → params ≡ [] → RunsStatement g sql params old new r → (HasCleanDisk (state g new) → OnOk r (Deletes sql params (state g old) (state g new))) → answer ≡ answer_on r on.SourceState
-    → Moves g (IsBetween machine counts IsStored) (IsBetween machine counts (λ rows. rows ≡ [])) old new answer
+    → Moves g same_schema (IsBetween machine counts IsStored) (IsBetween machine counts (λ rows. rows ≡ [])) old new answer
 states_moved {g = g} {old = old} {new = new} {sql = sql} {params = params} machine counts text none =
     statement_moves on.SourceState (inr (inl (text, none, refl))) (Deletes sql params)
     (λ was. deletes_writes old.schema sql (table_in old.schema source_state) [] (text old.schema (tree_named old.schema source_state.name) was.old.has (states_quiet old.schema was.has was.old)))
@@ -254,7 +263,7 @@ states_moved {g = g} {old = old} {new = new} {sql = sql} {params = params} machi
 
 module _ (machine : Machine) (sql : List ℕ) (old new : State) where
   format_set : UpdatesAmong office sql [] second_format 0 → IsBetween machine (office_row_in One machine) (λ rows. rows ≡ []) old.now → Updates sql [] old new
-      → IsMoved (StandsFor (without_records machine)) old new
+      → IsMoved same_schema (StandsFor (without_records machine)) old new
   format_set text was does =
       let schema = old.now.schema in
       let is = was.has.office_is in
@@ -278,13 +287,14 @@ module _ (machine : Machine) (sql : List ℕ) (old new : State) where
           order = record { sources = tt; binaries = tt };
           emptied = λ states. other_rows old new table rows source_state is made was.old.has (λ e. omega (arith, e)) ∙ was.states;
         };
+        others = over_set old new table rows is (office_either schema) made;
         shown = made.shown;
         marks = made.marks;
       }
 
 pub format_moved : {S A : Type 0} {g : Ghosts S} {old new : Held S} {r : Result A Error} {answer : Result A StoreFault} {sql : List ℕ} {params : Row} (machine : Machine) → UpdatesAmong office sql [] second_format 0
     → params ≡ [] → RunsStatement g sql params old new r → (HasCleanDisk (state g new) → OnOk r (Updates sql params (state g old) (state g new))) → answer ≡ answer_on r on.Office
-    → Moves g (IsBetween machine (office_row_in One machine) (λ rows. rows ≡ [])) (StandsFor (without_records machine)) old new answer
+    → Moves g same_schema (IsBetween machine (office_row_in One machine) (λ rows. rows ≡ [])) (StandsFor (without_records machine)) old new answer
 format_moved {g = g} {old = old} {new = new} {sql = sql} {params = params} machine text none =
     statement_moves on.Office (inr (inr (inl (text, none, refl)))) (Updates sql params)
     (λ was. updates_writes old.schema sql (table_in old.schema office) [] second_format (text old.schema (tree_named old.schema office.name) was.has.office_is (office_quiet old.schema was.has)))
@@ -311,8 +321,8 @@ puts_record entry schema sql text = inr (inr (inr (entry, text, refl, refl)))
 pub record IsOnWay {S : Type 0} (g : Ghosts S) (machine : Machine) (all left : List Entry) (old now : Held S) : Type 0 where
   pub so_far : Machine
   pub whole : with_records so_far left ≡ with_records machine all
-  pub moves : (new : Held S) (r : Result (Unit {0}) StoreFault) → Moves g (StandsFor so_far) (StandsFor (with_records machine all)) now new r
-      → Moves g (StandsFor machine) (StandsFor (with_records machine all)) old new r
+  pub moves : (new : Held S) (r : Result (Unit {0}) StoreFault) → Moves g same_schema (StandsFor so_far) (StandsFor (with_records machine all)) now new r
+      → Moves g same_schema (StandsFor machine) (StandsFor (with_records machine all)) old new r
 
 -- all are left
 pub all_left : {S : Type 0} (g : Ghosts S) (machine : Machine) (all : List Entry) (old : Held S) → IsOnWay g machine all all old old
@@ -326,15 +336,15 @@ module _ {S : Type 0} {g : Ghosts S} {machine : Machine} {all left : List Entry}
     one_put changes = record {
       so_far = record way.so_far { records = finite.insert way.so_far.records entry.0 entry.1 };
       whole = ap (with_records way.so_far) (sym first) ∙ way.whole;
-      moves = λ last r moves. way.moves last r (moves_then (changes_move way.so_far tt (puts_record entry) changes) moves);
+      moves = λ last r moves. way.moves last r (moves_then same_has_all (changes_move way.so_far tt (puts_record entry) changes) moves);
     }
 
     -- one is not
     pub not_put : {A : Type 0} {fault : StoreFault} {r : Result (Unit {0}) StoreFault}
         → Changes {A = A} g (write.PutsRecord entry) (λ _. ⊤) (λ machine. record machine { records = finite.insert machine.records entry.0 entry.1 }) now new (Err fault) → r ≡ Err fault
-        → Moves g (StandsFor machine) (StandsFor (with_records machine all)) old new r
+        → Moves g same_schema (StandsFor machine) (StandsFor (with_records machine all)) old new r
     not_put {r = r} changes is = way.moves new r (moves_failed (changes_move way.so_far tt (puts_record entry) changes) is)
 
   -- none is left
-  pub all_put : left ≡ [] → Moves g (StandsFor machine) (StandsFor (with_records machine all)) old now (Ok (tt {0}))
+  pub all_put : left ≡ [] → Moves g same_schema (StandsFor machine) (StandsFor (with_records machine all)) old now (Ok (tt {0}))
   all_put none = way.moves now (Ok (tt {0})) (moves_none (λ db. subst (λ m. StandsFor m db) (ap (with_records way.so_far) (sym none) ∙ way.whole)))

@@ -7,11 +7,13 @@ use Rattle.sqlite.specs.Held.{Held, state}
 use Rattle.sqlite.specs.State.{HasCleanDisk, IsLive, IsRolledBack, Survives}
 use Rattle.sqlite.specs.Tree.{Trees}
 use Rattle.wb_sql.specs.Transactions.{Commits, FailsToCommit, IsTakenBack, LeavesAlone}
+use Rattle.wb_sql.specs.Upgrading.{with_second}
 use Rattle.wb_states.specs.declared.store_fault.StoreFault.{StoreFault}
 use Rattle.wb_states.specs.declared.store_fault.Table.TheVariants.{Office}
 use Rattle.wb_states.specs.Machine.{Machine, empty_office}
 use Rattle.wb_states.specs.Queue.{Entry}
 use Rattle.wb_store.specs.Faults.{fault_of}
+use Rattle.wb_store.specs.Others.{KeepsOthersOver}
 use Rattle.wb_store.specs.Settled.{IsOffice, StandsForTrees}
 use Rattle.wb_store.specs.Stands.{StandsFor}
 use Rattle.wb_store.specs.Settled.{IsFirstOffice}
@@ -23,14 +25,14 @@ use Rattle.wb_store.proofs.UpgradeLemmas.{all_records}
 
 -- the steps in the transaction that began, for each office of which these are the records
 abbrev pub MovesAll : {S A : Type 0} → Ghosts S → List Entry → Held S → Held S → Result A StoreFault → Type 0
-MovesAll g records begun written r = (machine : Machine) → Moves g (IsFirstOffice machine) (StandsFor (with_records (without_records machine) records)) begun written r
+MovesAll g records begun written r = (machine : Machine) → Moves g with_second (IsFirstOffice machine) (StandsFor (with_records (without_records machine) records)) begun written r
 
 module _ {S : Type 0} (g : Ghosts S) (records : List Entry) (old begun written : Held S) (begins : begun ≡ record old { in_transaction = true }) {A : Type 0} (r : Result A StoreFault)
     (moves : MovesAll g records begun written r) where
   -- what they make of the office
-  moves_at : (machine : Machine) → AreRecordsOf machine records → Moves g (IsFirstOffice machine) (StandsFor machine) begun written r
+  moves_at : (machine : Machine) → AreRecordsOf machine records → Moves g with_second (IsFirstOffice machine) (StandsFor machine) begun written r
   moves_at machine are =
-      subst (λ after. Moves g (IsFirstOffice machine) (StandsFor after) begun written r) (ap (with_records (without_records machine)) are ∙ all_records machine) (moves machine)
+      subst (λ after. Moves g with_second (IsFirstOffice machine) (StandsFor after) begun written r) (ap (with_records (without_records machine)) are ∙ all_records machine) (moves machine)
 
   office_then : (machine : Machine) → HasFirst machine (state g old) → IsFirstOffice machine (state g begun).now
   office_then machine first = subst (λ h. IsFirstOffice machine (state g h).now) (sym begins) first.office
@@ -66,6 +68,7 @@ module _ {S : Type 0} (g : Ghosts S) (records : List Entry) (old begun written n
         limit = survives.limit ∙ limit_then g records old begun written begins (Err fault) moves;
         idle = λ clean. over_of (state g written) (state g new) (taken_of (state g written) (state g new) r (ok clean) (err clean));
         upgraded = λ clean machine first are. tt;
+        others = λ clean machine first are. tt;
         crash = λ clean machine first are db may. elim (survives.crash clean db may) [
           | inl was ↦ inl (no_more_then g records old begun written begins (Err fault) moves machine first are (before clean) db was)
           | inr none ↦ absurd none
@@ -84,7 +87,7 @@ module _ {S : Type 0} (g : Ghosts S) (records : List Entry) (old begun written a
   before_it : HasCleanDisk (state g at) → HasCleanDisk (state g written)
   before_it clean = was_clean (state g written) (state g at) survives clean
 
-  moved : HasCleanDisk (state g at) → (machine : Machine) → HasFirst machine (state g old) → AreRecordsOf machine records → IsMoved (StandsFor machine) (state g begun) (state g written)
+  moved : HasCleanDisk (state g at) → (machine : Machine) → HasFirst machine (state g old) → AreRecordsOf machine records → IsMoved with_second (StandsFor machine) (state g begun) (state g written)
   moved clean machine first are =
       (moves_at g records old begun written begins (Ok x) moves machine are).ok (before_it clean) (inside_then g records old begun written begins (Ok x) moves machine first)
       (office_then g records old begun written begins (Ok x) moves machine first)
@@ -115,6 +118,9 @@ module _ {S : Type 0} (g : Ghosts S) (records : List Entry) (old begun written a
           holds = subst (IsOffice machine) (sym made.shown.now_is) (is_office clean machine first are);
           alone = λ db may. alone clean db may ∙ ap (λ (d : Database). d.trees) (sym made.shown.now_is);
         };
+    others = λ clean machine first are.
+        subst (λ db. KeepsOthersOver (state g old).now db) (sym (commits clean).shown.now_is)
+        (subst (λ h. KeepsOthersOver (state g h).now (state g written).now) begins (moved clean machine first are).others);
     crash = leaves_then;
     err = λ clean machine first are. tt;
   }
@@ -129,12 +135,13 @@ module _ {S : Type 0} (g : Ghosts S) (records : List Entry) (old begun written a
         limit = later.limit ∙ survives.limit ∙ limit_then g records old begun written begins (Ok x) moves;
         idle = λ clean. over_of (state g at) (state g new) (back clean);
         upgraded = λ clean machine first are. tt;
+        others = λ clean machine first are. tt;
         crash = λ clean machine first are db may. elim (later.crash clean db may) [
           | inl was ↦ leaves_then (then clean) machine first are db was
           | inr none ↦ absurd none
         ];
         err = λ clean machine first are. (
           written,
-          inr (subst (λ h. IsMoved (StandsFor machine) (state g h) (state g written)) begins (moved (then clean) machine first are), (e, cause (then clean), fault_is)),
+          inr (subst (λ h. IsMoved with_second (StandsFor machine) (state g h) (state g written)) begins (moved (then clean) machine first are), (e, cause (then clean), fault_is)),
         );
       }

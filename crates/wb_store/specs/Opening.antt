@@ -25,6 +25,7 @@ use Rattle.wb_store.specs.Formats.{FailsToReadFormat, IsNewer, IsNoOffice, IsOth
 use Rattle.wb_store.specs.Checks.{AreBadCounts, AreBadRecords, AreBadRows, FailsToTest, HasGoodRows, HasGoodRowsIn, HoldsArchs, HoldsBuilders, HoldsCounts, IsFormedArch, IsFormedBuilder, ShowsGood}
 use Rattle.wb_store.specs.declared.format.Format.{Format}
 use Rattle.wb_store.specs.declared.format.Format.TheVariants.{One, Two}
+use Rattle.wb_store.specs.Others.{KeepsOthersOver}
 use Rattle.wb_store.specs.Queries as ask
 use Rattle.wb_store.specs.Queries.{OfficeQuery, table_asked, table_of}
 use Rattle.wb_store.specs.Schemas.{query_of_records}
@@ -244,7 +245,8 @@ pub record NamesFault {S : Type 0} (g : Ghosts S) (old new : Held S) (result : R
 -- counts; whatever it answers, a crash leaves that state; it fails only if it could not be made, or if memory ran out or a query failed; an office
 -- that is found, in either schema, has good rows, or is refused by one of its tests, before anything is written; and whatever it answers over an open
 -- connection, a crash leaves what it could leave before, or an empty office of a database that lacked one, or the same state in the second schema; where an
--- office is made, the tables that were there keep their rows; no transaction is under way, and the limit of steps stays
+-- office is made, the tables that were there keep their rows, and where one of the first schema is brought over, those of others do, and the schema gets the tables and
+-- indexes of the second and nothing else; no transaction is under way, and the limit of steps stays
 pub record PreparesOffice {S : Type 0} (g : Ghosts S) (old new : Held S) (result : Result Counts StoreFault) : Type 0 where
   pub was_clean : HasCleanDisk (state g new) → HasCleanDisk (state g old)
   pub found : HasCleanDisk (state g new) → (machine : Machine) → IsConsistent machine → IsFoundAt machine (state g old)
@@ -263,6 +265,7 @@ pub record PreparesOffice {S : Type 0} (g : Ghosts S) (old new : Held S) (result
   pub crash : HasCleanDisk (state g new) → IsTrue (state g old).is_open → StandsIfFirst (state g old).now → LeavesPrepared (state g old) (state g new)
   pub others : HasCleanDisk (state g new) → IsTrue (state g old).is_open → LacksOffice old.schema
       → OnOk result (KeepsRows old.schema.tables (state g old).now.trees (state g new).now.trees)
+  pub others_first : HasCleanDisk (state g new) → (machine : Machine) → HasFirst machine (state g old) → OnOk result (KeepsOthersOver (state g old).now (state g new).now)
   pub idle : HasCleanDisk (state g new) → IsTrue (state g old).is_open → (state g new).in_transaction ≡ false
   pub limit : new.step_limit ≡ old.step_limit
 

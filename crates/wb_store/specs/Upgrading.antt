@@ -15,7 +15,7 @@ use Rattle.wb_sql.specs.FirstSchema.{second_format}
 use Rattle.wb_sql.specs.Making.{IsMaking}
 use Rattle.wb_sql.specs.Tables.{office, source_record, source_state, scratch_source, scratch_binary}
 use Rattle.wb_sql.specs.Transactions.{FailsToCommit}
-use Rattle.wb_sql.specs.Upgrading.{HasFirstOffice}
+use Rattle.wb_sql.specs.Upgrading.{HasFirstOffice, with_second}
 use Rattle.wb_archive.specs.Tables.{HasFittingTake}
 use Rattle.wb_rows.specs.FirstSchema.{IsOfFirst, first_cells}
 use Rattle.wb_rows.specs.Reading.{IsReadable}
@@ -29,6 +29,7 @@ use Rattle.wb_states.specs.Machine.{IsConsistent, Machine}
 use Rattle.wb_states.specs.Queue.{Entry}
 use Rattle.wb_store.specs.Calls.{FailsToRead}
 use Rattle.wb_store.specs.Faults.{fault_of, unfit}
+use Rattle.wb_store.specs.Others.{KeepsOthersIn, KeepsOthersOver}
 use Rattle.wb_store.specs.Queries as ask
 use Rattle.wb_store.specs.Settled.{IsFirstOffice, IsSettled, StandsForTrees, begun}
 use Rattle.wb_store.specs.Stands.{HasArchsOf, HasBuildersOf, StandsFor, StandsForFirst}
@@ -88,9 +89,10 @@ abbrev pub with_records : Machine → List Entry → Machine
 with_records machine [] = machine
 with_records machine (entry ∷ entries) = with_records (record machine { records = finite.insert machine.records entry.0 entry.1 }) entries
 
--- in a transaction this is true of the database now, and what was committed stays
-pub record IsMoved (After : Database → Type 0) (old new : State) : Type 0 where
+-- in a transaction this is true of the database now, its schema has become this one of what it was, the tables of others keep their rows, and what was committed stays
+pub record IsMoved (become : Schema → Schema) (After : Database → Type 0) (old new : State) : Type 0 where
   pub reached : After new.now
+  pub others : KeepsOthersIn become old.now new.now
   pub shown : Shows old new new.now old.committed true
   pub marks : new.marks ≡ old.marks
 
@@ -114,10 +116,10 @@ pub record IsInside (s : State) : Type 0 where
   pub is_open : IsTrue s.is_open
   pub inside : IsTrue s.in_transaction
 
--- a step in a transaction over a database of which the first is true: if it succeeds, the second is; if it fails, one of its statements did; and a crash leaves no
--- more than before. The limit of steps stays
-pub record Moves {S A : Type 0} (g : Ghosts S) (Before After : Database → Type 0) (old new : Held S) (result : Result A StoreFault) : Type 0 where
-  pub ok : HasCleanDisk (state g new) → IsInside (state g old) → OnOk result (Before (state g old).now → IsMoved After (state g old) (state g new))
+-- a step in a transaction over a database of which the first is true: if it succeeds, the second is, the schema has become this one of what it was, and the tables of
+-- others keep their rows; if it fails, one of its statements did; and a crash leaves no more than before. The limit of steps stays
+pub record Moves {S A : Type 0} (g : Ghosts S) (become : Schema → Schema) (Before After : Database → Type 0) (old new : Held S) (result : Result A StoreFault) : Type 0 where
+  pub ok : HasCleanDisk (state g new) → IsInside (state g old) → OnOk result (Before (state g old).now → IsMoved become After (state g old) (state g new))
   pub err : HasCleanDisk (state g new) → IsInside (state g old) → Before (state g old).now → IfErr result (FailsToMove g old new)
   pub survives : HasCleanDisk (state g new) → IsInside (state g old) → Before (state g old).now → Survives (state g old) (state g new) (λ _. ⊥)
   pub was_clean : HasCleanDisk (state g new) → HasCleanDisk (state g old)
@@ -138,14 +140,16 @@ LeavesOrUpgrades machine old new = (db : Trees) → new.may_leave db → old.may
 abbrev pub FailsToUpgrade : {S : Type 0} → Ghosts S → Machine → Held S → StoreFault → Type 0
 FailsToUpgrade {S} g machine old fault =
     (at : Held S)
-    × (FailsToMove g (begun old) at fault ⊎ (IsMoved (StandsFor machine) (state g (begun old)) (state g at) × ((e : Error) × FailsToCommit g at e × (fault ≡ fault_of e Office))))
+    × (FailsToMove g (begun old) at fault ⊎ (IsMoved with_second (StandsFor machine) (state g (begun old)) (state g at) × ((e : Error) × FailsToCommit g at e × (fault ≡ fault_of e Office))))
 
--- an office of the first schema, of which these are the records, is brought over into the second, whole or not at all, also after a crash; no transaction is under
--- way then; the limit of steps stays
+-- an office of the first schema, of which these are the records, is brought over into the second, whole or not at all, also after a crash; if it is, the tables of
+-- others keep their rows; no transaction is under way then; the limit of steps stays
 pub record UpgradesOffice {S A : Type 0} (g : Ghosts S) (records : List Entry) (old new : Held S) (result : Result A StoreFault) : Type 0 where
   pub was_clean : HasCleanDisk (state g new) → HasCleanDisk (state g old)
   pub limit : (state g new).step_limit ≡ (state g old).step_limit
   pub idle : HasCleanDisk (state g new) → (state g new).in_transaction ≡ false
   pub upgraded : HasCleanDisk (state g new) → (machine : Machine) → HasFirst machine (state g old) → AreRecordsOf machine records → OnOk result (IsSettled machine (state g new))
+  pub others : HasCleanDisk (state g new) → (machine : Machine) → HasFirst machine (state g old) → AreRecordsOf machine records
+      → OnOk result (KeepsOthersOver (state g old).now (state g new).now)
   pub crash : HasCleanDisk (state g new) → (machine : Machine) → HasFirst machine (state g old) → AreRecordsOf machine records → LeavesOrUpgrades machine (state g old) (state g new)
   pub err : HasCleanDisk (state g new) → (machine : Machine) → HasFirst machine (state g old) → AreRecordsOf machine records → IfErr result (FailsToUpgrade g machine old)

@@ -18,8 +18,10 @@ ghost use Rattle.wb_store.specs.Files.{AreFoundAt, AreGivenUp, AreNew, AreRefuse
 ghost use Rattle.wb_store.specs.Files.{IsFaultOfClosing, IsFaultOfOpening, LeaveOffice};
 ghost use Rattle.wb_store.specs.Opened.{IsOpenedAt, IsOpenedAtOne};
 ghost use Rattle.wb_store.specs.Opening.{HasNoRowsLeft, HasNoScratchRows, IsRefusedFrom, PreparesOffice};
+ghost use Rattle.wb_store.specs.Others.{KeepsOthersOver};
 ghost use Rattle.wb_store.specs.Preparing.{IsFoundAt};
 ghost use Rattle.wb_store.specs.Settled.{AreSettledAt, LeavesEither, IsBackAt};
+ghost use Rattle.wb_store.specs.Upgrading.{HasFirst};
 ghost use Rattle.wb_store.specs.declared.format.Format.TheVariants.{One};
 
 use crate::fault::{fault_of, opening_fault};
@@ -81,6 +83,9 @@ impl<S: Alter + Drop> Store<S> {
         ensures others { IfOk result (λ opened. HasCleanDisk (state S.Store opened.0)
             → IsTrue (state S.Store conn).is_open → LacksOffice conn.schema
             → KeepsRows conn.schema.tables (state S.Store conn).now.trees (state S.Store opened.0).now.trees) }
+        ensures others_first { IfOk result (λ opened. HasCleanDisk (state S.Store opened.0)
+            → (machine : Machine) → HasFirst machine (state S.Store conn)
+            → KeepsOthersOver (state S.Store conn).now (state S.Store opened.0).now) }
         ensures limit { IfOk result (λ opened. opened.0.step_limit ≡ conn.step_limit) }
         ensures clean { IfOk result (λ opened. HasCleanDisk (state S.Store opened.0)
             → HasCleanDisk (state S.Store conn)) }
@@ -114,6 +119,9 @@ impl<S: Alter + Drop> Store<S> {
         ensures others { IfOk result (λ opened. HasCleanDisk (state S.Store opened.0)
             → IsTrue (state S.Store conn).is_open → LacksOffice conn.schema
             → KeepsRows conn.schema.tables (state S.Store conn).now.trees (state S.Store opened.0).now.trees) }
+        ensures others_first { IfOk result (λ opened. HasCleanDisk (state S.Store opened.0)
+            → (machine : Machine) → HasFirst machine (state S.Store conn)
+            → KeepsOthersOver (state S.Store conn).now (state S.Store opened.0).now) }
         ensures limit { IfOk result (λ opened. opened.0.step_limit ≡ conn.step_limit) }
         ensures clean { IfOk result (λ opened. HasCleanDisk (state S.Store opened.0)
             → HasCleanDisk (state S.Store conn)) }

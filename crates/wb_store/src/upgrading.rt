@@ -4,6 +4,7 @@ ghost use Rattle.std.specs.List.{AllByRecursion};
 ghost use Rattle.wb_archive.specs.Tables.{HasFittingTake};
 ghost use Rattle.wb_states.specs.Lookups.{entry_of};
 ghost use Rattle.wb_sql.specs.Rows.{IsStored};
+ghost use Rattle.wb_sql.specs.Upgrading.{with_second};
 ghost use Rattle.wb_rows.specs.FirstSchema.{IsOfFirst, first_cells};
 ghost use Rattle.wb_states.specs.Machine.{Machine};
 ghost use Rattle.wb_states.specs.Queue.{Entry};
@@ -14,6 +15,7 @@ ghost use Rattle.wb_store.specs.declared.format.Format.TheVariants.{One};
 ghost use Rattle.wb_store.specs.Stands.{StandsFor, office_row_in};
 ghost use Rattle.wb_store.specs.Settled.{IsFirstOffice};
 ghost use Rattle.wb_store.specs.FirstOpening.{BringsOver, ReadsOffice};
+ghost use Rattle.wb_store.specs.Others.{same_schema};
 ghost use Rattle.wb_store.specs.Upgrading.{IsBetween, IsFirstEntry, Moves, ReadsFirst, UpgradesOffice, first_keyed, with_records, without_records};
 
 use crate::changes::{has_fitting_take, put};
@@ -80,7 +82,7 @@ fn upgrade<S: Alter>(conn: &mut Connection<S>, records: &[KeyedRecord]) -> Resul
 /// Makes the tables of the second schema, with these records, of those of the first.
 fn move_all<S: Alter>(conn: &mut Connection<S>, records: &[KeyedRecord]) -> Result<(), StoreFault>
     requires fit { AllByRecursion (λ read. HasFittingTake read.current) records.now }
-    ensures moves { (machine : Machine) → Moves S.Store (IsFirstOffice machine)
+    ensures moves { (machine : Machine) → Moves S.Store with_second (IsFirstOffice machine)
         (StandsFor (with_records (without_records machine) (each entry_of records.now))) conn.old conn.new result }
 {
     move_office(conn)?;
@@ -90,8 +92,8 @@ fn move_all<S: Alter>(conn: &mut Connection<S>, records: &[KeyedRecord]) -> Resu
 /// Makes the tables of an office without a record beside those of the first schema, of which the records are removed and
 /// all else stays.
 fn move_office<S: Alter>(conn: &mut Connection<S>) -> Result<(), StoreFault>
-    ensures moves { (machine : Machine) → Moves S.Store (IsFirstOffice machine) (StandsFor (without_records machine))
-        conn.old conn.new result }
+    ensures moves { (machine : Machine) → Moves S.Store with_second (IsFirstOffice machine)
+        (StandsFor (without_records machine)) conn.old conn.new result }
 {
     make_tables(conn)?;
     clear_states(conn)?;
@@ -100,7 +102,7 @@ fn move_office<S: Alter>(conn: &mut Connection<S>) -> Result<(), StoreFault>
 
 /// Makes what the second schema adds to the first.
 fn make_tables<S: Alter>(conn: &mut Connection<S>) -> Result<(), StoreFault>
-    ensures moves { (machine : Machine) → Moves S.Store (IsFirstOffice machine)
+    ensures moves { (machine : Machine) → Moves S.Store with_second (IsFirstOffice machine)
         (IsBetween machine (office_row_in One machine) IsStored) conn.old conn.new result }
 {
     answer_on(make_second_tables(conn), Table::SourceRecord)
@@ -108,7 +110,8 @@ fn make_tables<S: Alter>(conn: &mut Connection<S>) -> Result<(), StoreFault>
 
 /// Removes the records from the table of the first schema.
 fn clear_states<S: Alter>(conn: &mut Connection<S>) -> Result<(), StoreFault>
-    ensures moves { (machine : Machine) → Moves S.Store (IsBetween machine (office_row_in One machine) IsStored)
+    ensures moves { (machine : Machine) → Moves S.Store same_schema
+        (IsBetween machine (office_row_in One machine) IsStored)
         (IsBetween machine (office_row_in One machine) (λ rows. rows ≡ [])) conn.old conn.new result }
 {
     let answered = delete(conn, first_schema::clear_states(), &[]);
@@ -117,7 +120,7 @@ fn clear_states<S: Alter>(conn: &mut Connection<S>) -> Result<(), StoreFault>
 
 /// Gives the office the format of the second schema.
 fn set_format<S: Alter>(conn: &mut Connection<S>) -> Result<(), StoreFault>
-    ensures moves { (machine : Machine) → Moves S.Store
+    ensures moves { (machine : Machine) → Moves S.Store same_schema
         (IsBetween machine (office_row_in One machine) (λ rows. rows ≡ []))
         (StandsFor (without_records machine)) conn.old conn.new result }
 {
@@ -128,7 +131,7 @@ fn set_format<S: Alter>(conn: &mut Connection<S>) -> Result<(), StoreFault>
 /// Gives each of these source packages its record.
 fn put_all<S: Alter>(conn: &mut Connection<S>, records: &[KeyedRecord]) -> Result<(), StoreFault>
     requires fit { AllByRecursion (λ read. HasFittingTake read.current) records.now }
-    ensures moves { (machine : Machine) → Moves S.Store (StandsFor machine)
+    ensures moves { (machine : Machine) → Moves S.Store same_schema (StandsFor machine)
         (StandsFor (with_records machine (each entry_of records.now))) conn.old conn.new result }
 {
     for read in records {

@@ -38,3 +38,6 @@ returns-in-Ok-clause-good_first g c = λ clean first. let good = c.in-Ok.ensures
 
 pub returns-in-Ok-clause-others : goal.returns-in-Ok-clause-others
 returns-in-Ok-clause-others g c = c.in-Ok.ensures.prepares.others
+
+pub returns-in-Ok-clause-others_first : goal.returns-in-Ok-clause-others_first
+returns-in-Ok-clause-others_first g c = c.in-Ok.ensures.prepares.others_first
