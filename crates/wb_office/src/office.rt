@@ -19,8 +19,10 @@ ghost use Rattle.wb_store.specs.declared.format.Format.TheVariants.{One};
 ghost use Rattle.wb_store.specs.Files.{AreFoundAt, AreNew, AreRefused, AreUnclosed};
 ghost use Rattle.wb_store.specs.Files.{IsFaultOfClosing, IsFaultOfOpening, LeaveOffice};
 ghost use Rattle.wb_store.specs.Merging.{no_merge};
+ghost use Rattle.wb_store.specs.Others.{KeepsOthersOver};
 ghost use Rattle.wb_store.specs.Preparing.{IsFoundAt};
 ghost use Rattle.wb_store.specs.TableRows.{FailsToShowOne, table_rows};
+ghost use Rattle.wb_store.specs.Upgrading.{HasFirst};
 ghost use Rattle.wb_rows.specs.Shown.{row_of};
 ghost use Rattle.wb_office.specs.declared.answer.Failure.TheVariants.{Uncommitted};
 ghost use Rattle.wb_states.specs.Queries.{answer_of, has_malformed_name};
@@ -89,6 +91,9 @@ impl<S: Alter + Drop> Office<S> {
         ensures others { IfOk result (λ office. HasCleanDisk (state S.Store office.store)
             → IsTrue (state S.Store conn).is_open → LacksOffice conn.schema
             → KeepsRows conn.schema.tables (state S.Store conn).now.trees (state S.Store office.store).now.trees) }
+        ensures others_first { IfOk result (λ office. HasCleanDisk (state S.Store office.store)
+            → (machine : Machine) → HasFirst machine (state S.Store conn)
+            → KeepsOthersOver (state S.Store conn).now (state S.Store office.store).now) }
         ensures limit { IfOk result (λ office. office.store.step_limit ≡ conn.step_limit) }
         ensures clean { IfOk result (λ office. HasCleanDisk (state S.Store office.store) → HasCleanDisk (state S.Store conn)) }
         ensures refused { IfErr result (λ refused. PreparesOffice S.Store conn refused.conn (Err refused.fault)) }
@@ -129,6 +134,9 @@ impl<S: Alter + Drop> Office<S> {
         ensures others { IfOk result (λ office. HasCleanDisk (state S.Store office.store)
             → IsTrue (state S.Store conn).is_open → LacksOffice conn.schema
             → KeepsRows conn.schema.tables (state S.Store conn).now.trees (state S.Store office.store).now.trees) }
+        ensures others_first { IfOk result (λ office. HasCleanDisk (state S.Store office.store)
+            → (machine : Machine) → HasFirst machine (state S.Store conn)
+            → KeepsOthersOver (state S.Store conn).now (state S.Store office.store).now) }
         ensures limit { IfOk result (λ office. office.store.step_limit ≡ conn.step_limit) }
         ensures clean { IfOk result (λ office. HasCleanDisk (state S.Store office.store) → HasCleanDisk (state S.Store conn)) }
         ensures refused { IfErr result (IsRefusedFrom S.Store conn) }
