@@ -579,6 +579,13 @@ def refuses_what_waits_and_lists(folder):
         expect_status(1, report(folder, said), message)
     (folder / "Packages").write_text("Package: bb\n")
     expect_status(1, report(folder), "Packages: no empty line ends it")
+    (folder / "Packages").write_bytes(b"\xfd7zXZ\0\0")
+    expect_status(1, report(folder), "Packages: it is compressed by xz")
+    for other in ("arm64", "any", "allx", "amd64 arm64"):
+        (folder / "Packages").write_text(f"Package: bb\nArchitecture: all\n\nPackage: cc\nArchitecture: {other}\n\n")
+        expect_status(1, report(folder), f"Packages: it has a package of the Architecture '{other}', which is neither")
+    (folder / "Packages").write_text("Package: bb\nArchitecture: all\n\nPackage: cc\nArchitecture: amd64 \n\n")
+    expect_status(0, report(folder, STATUS="0"))
     (folder / "Packages").write_text("")
     expect_status(0, report(folder, STATUS="0"))
     (folder / "Sources").write_text(THREE[:-1])

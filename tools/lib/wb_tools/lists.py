@@ -7,6 +7,7 @@ The form of control data is the one that `wb` reads, so that what passes here is
 has to end with an empty line, which shows that its last paragraph was not cut off.
 """
 import argparse
+import codecs
 import contextlib
 import os
 import re
@@ -24,6 +25,7 @@ TABLES = Path("/usr/share/dpkg")  # where dpkg keeps its tables of architectures
 COMPRESSED = {
     b"\x1f\x8b": "gzip", b"\xfd7zXZ\0": "xz", b"\x28\xb5\x2f\xfd": "zstd", b"BZh": "bzip2",
 }  # by how such a file begins
+RETURN = "it ends with a carriage return; take the carriage returns out"
 CUT = "no empty line ends it, so the list was cut off there; fetch it again"
 
 DONE, REFUSED, WORDS, FAILED = 0, 1, 2, 3
@@ -191,17 +193,23 @@ def paragraphs(path: Path, is_ended: bool = True) -> Iterator[Paragraph]:
 
 
 def check_text(path: Path, file: BufferedReader) -> None:
-    """Refuses a list that is compressed, as its first bytes show; they are not taken out of the file, which may be a
-    pipe."""
+    """Refuses a list that is compressed, or that has the marks of a text of another system, as its first bytes show;
+    they are not taken out of the file, which may be a pipe."""
     start = file.peek(max(map(len, COMPRESSED)))
     for magic, program in COMPRESSED.items():
         if start.startswith(magic):
             raise Refused(f"{path}: it is compressed by {program}; uncompress it, since a list is text")
+    if start.startswith(codecs.BOM_UTF8):
+        raise Refused(f"{path}: paragraph 1, line 1: it begins with a byte order mark; take it out")
+    if start.partition(b"\n")[0].endswith(b"\r"):
+        raise Refused(f"{path}: paragraph 1, line 1: {RETURN}")
 
 
 def check_end(path: Path) -> None:
-    """Refuses a list, if it has a paragraph, that no empty line ends; for one that another program reads."""
+    """Refuses a list that is no text, or, if it has a paragraph, that no empty line ends; for one that another program
+    reads."""
     with path.open("rb") as file:
+        check_text(path, file)
         size = file.seek(0, os.SEEK_END)
         file.seek(max(0, size - 2))
         if size and file.read() != b"\n\n":
@@ -220,9 +228,7 @@ def read_paragraph(path: Path, number: int, first_line: int, lines: list[bytes])
             continue
         found = FIELD.match(line)
         if line.endswith(b"\r\n"):
-            raise Refused(
-                f"{where}, line {first_line + at}: it ends with a carriage return; take the carriage returns out"
-            )
+            raise Refused(f"{where}, line {first_line + at}: {RETURN}")
         if found is None:
             raise Refused(f"{where}, line {first_line + at}: it is no field, which has a name and a colon")
         name = found[1].decode().lower()

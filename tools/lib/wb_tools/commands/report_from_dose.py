@@ -1,5 +1,6 @@
 """Asks dose-builddebcheck which of the source packages that wait can be built; `--help` says how."""
 import argparse
+import mmap
 import re
 import sys
 import tempfile
@@ -120,6 +121,23 @@ def pick(words: argparse.Namespace, waiting: list[Waiting], target: Path) -> lis
 def is_that(paragraph: Paragraph, one: Waiting) -> bool:
     version = paragraph.checked("Version", is_version)
     return version_key(version) == version_key(one.version) and not is_extra(paragraph)
+
+
+def check_packages(path: Path, arch: str) -> None:
+    """Refuses a Packages list that is no whole text, or that has packages of another architecture: by it nothing could
+    be built, and the report would take all that waits out of the queue."""
+    check_end(path)
+    if path.stat().st_size == 0:
+        return
+    foreign = re.compile(rb"^Architecture:(?![ \t]*(?:all|%b)[ \t]*$)[ \t]*(.*)$" % arch.encode(), re.M | re.I)
+    with path.open("rb") as file, mmap.mmap(file.fileno(), 0, access=mmap.ACCESS_READ) as text:
+        found = foreign.search(text)
+        named = found[1].decode(errors="replace")[:100] if found else ""
+    if found:
+        raise Refused(
+            f"{path}: it has a package of the Architecture {named!r}, which is neither {arch} nor all; give the "
+            f"Packages list of {arch}"
+        )
 
 
 def ask_dose(words: argparse.Namespace, picked: Path) -> tuple[int, str]:
@@ -277,7 +295,7 @@ def report_lines(asked: list[Waiting], reasons: dict[str, str]) -> Iterator[str]
 
 def report(words: argparse.Namespace) -> None:
     waiting = waiting_packages(words.waiting)
-    check_end(words.packages)
+    check_packages(words.packages, words.native or words.arch)
     with tempfile.TemporaryDirectory(prefix=f"{PROGRAM}.") as folder:
         picked = Path(folder) / "Sources"
         asked = pick(words, waiting, picked)
