@@ -466,6 +466,30 @@ def ends_no_other_process(folder):
         other.kill()
 
 
+def starts_nothing_that_no_file_names(folder):
+    """The folder of PID_FILE is made if it is gone, as after a boot; if it cannot be made, nothing is started."""
+    with Trial(folder) as office:
+        office.fill()
+        office.settings["PID_FILE"] = folder / "run" / "wb.pid"
+        office.write_settings()
+        office.do("start")
+        office.do("status")
+        office.do("stop")
+        expect(not os.listdir(folder / "run"), f"there is {os.listdir(folder / 'run')}")
+        office.settings["PID_FILE"] = folder / "not" / "there" / "wb.pid"
+        office.write_settings()
+        _, said = office.do("start", wanted=1)
+        expect("No such file" in said, said)
+        office.do("backup")
+
+
+def says_that_another_program_has_the_port(folder):
+    with Trial(folder) as office, socket.create_server(("127.0.0.1", office.port)):
+        office.fill()
+        shown, _ = office.do("status", wanted=3)
+        expect(f"port {office.port}: another program has it\n" in shown, shown)
+
+
 def ask(port):
     try:
         with urllib.request.urlopen(f"http://127.0.0.1:{port}/v1/mine/b1", timeout=WAIT) as answer:
@@ -558,6 +582,7 @@ def prunes_by_count_and_by_days(folder):
             office.write_settings()
             before = office.tree()
             office.do("--dry-run", "prune")
+            office.do("prune", "--dry-run")
             expect(office.tree() == before, "a dry run removes a backup")
             _, said = office.do("prune")
             left = sorted(path.name for path in office.saved())
@@ -605,7 +630,8 @@ def says_what_to_say_without_systemd(folder):
             for words in (["start"], ["status"], ["stop"]):
                 path = {**os.environ, "PATH": f"{bin_folder}"}
                 _, said = office.do(*words, env=path, wanted=1)
-                expect("without systemd say SERVICE=pidfile" in said, f"{words}: {said}")
+                expect(f"without systemd say SERVICE=pidfile in {office.conf}" in said, f"{words}: {said}")
+                expect("not been booted" not in said and "journalctl" not in said, f"{words}: {said}")
 
 
 def speaks_with_systemd(folder):
@@ -629,7 +655,7 @@ def speaks_with_systemd(folder):
             expect(asked == ["stop a.service", "start a.service"], f"it asks {asked}")
             (folder / "refuse").write_text("")
             _, said = office.do("backup", "--stop", env=path, wanted=3)
-            expect("NOT STARTED AGAIN" in said and "journalctl" in said, said)
+            expect("NOT STARTED AGAIN" in said and "systemctl start a.service ended with 1" in said, said)
         finally:
             call([bin_folder / "systemctl", "stop"])
 
@@ -682,6 +708,8 @@ TESTS = [
     says_that_it_could_not_start_again,
     starts_again_after_a_signal, tries_a_merge_first, gives_lines, keeps_a_journal, is_called_once_at_a_time,
     ends_no_other_process,
+    starts_nothing_that_no_file_names,
+    says_that_another_program_has_the_port,
     serves_on_when_its_connections_are_used_up, backs_up_from_a_snapshot, prunes_by_count_and_by_days,
     speaks_with_systemd, says_what_to_say_without_systemd,
     works_as_the_owner_of_its_files,

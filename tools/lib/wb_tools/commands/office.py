@@ -26,13 +26,13 @@ from wb_tools.suites import default_settings, settings_of_suite
 
 EPILOG = """\
 examples:
-  office status
-  office --dry-run merge Sources-0412 amd64=Packages-amd64-0412
-  office merge --most-removed 100 Sources-0412 amd64=Packages-amd64-0412
-  office --suite experimental status
-  office merge Sources-amd64 amd64=Packages-amd64 Sources-armhf armhf=Packages-armhf
-  echo 'add-builder b1 amd64' | office run
-  office restore --force /var/lib/wb/backups/2026-04-12T031500Z
+  %(prog)s status
+  %(prog)s --dry-run merge Sources-0412 amd64=Packages-amd64-0412
+  %(prog)s merge --most-removed 100 Sources-0412 amd64=Packages-amd64-0412
+  %(prog)s --suite experimental status
+  %(prog)s merge Sources-amd64 amd64=Packages-amd64 Sources-armhf armhf=Packages-armhf
+  echo 'add-builder b1 amd64' | %(prog)s run
+  %(prog)s restore --force /var/lib/wb/backups/2026-04-12T031500Z
 
 settings, lines of KEY=VALUE as systemd's EnvironmentFile has them, a value with a blank in quotes:
   PROGRAM          the program wb                       /usr/bin/wb
@@ -100,7 +100,7 @@ def add_merge(below: Any) -> None:
 
 def parser() -> argparse.ArgumentParser:
     whole = argparse.ArgumentParser(
-        prog="office", description=(__doc__ or "").split("\n\n")[0], epilog=EPILOG,
+        prog=Path(sys.argv[0]).name, description=(__doc__ or "").split("\n\n")[0], epilog=EPILOG,
         formatter_class=argparse.RawDescriptionHelpFormatter,
     )
     which = whole.add_mutually_exclusive_group()
@@ -132,6 +132,8 @@ def parser() -> argparse.ArgumentParser:
     below.add_parser("run", help="stop, give the office the lines of standard input, start")
     below.add_parser("ready", help="end with 0 if there is an office that may be served; what the unit asks first")
     below.add_parser("keep", help="serve in the foreground, again and again, for those without systemd")
+    for command in below.choices.values():  # it may stand after the command too
+        command.add_argument("--dry-run", action="store_true", default=argparse.SUPPRESS, help=argparse.SUPPRESS)
     return whole
 
 

@@ -28,19 +28,18 @@ class Systemd:
         self.stopping = f"stop the service: systemctl stop {settings.unit}"
 
     def call(self, *words: str) -> str:
+        hint = f"without systemd say SERVICE=pidfile in {self.settings.file}"
+        booted = RUNS_SYSTEMD.is_dir()
         with self.owner.caller():
             try:
                 done = subprocess.run(
-                    ["systemctl", *words], stdin=subprocess.DEVNULL, stdout=subprocess.PIPE, check=False
+                    ["systemctl", *words], stdin=subprocess.DEVNULL, stdout=subprocess.PIPE,
+                    stderr=None if booted else subprocess.DEVNULL, check=False,
                 )
             except OSError as error:
-                raise Refusal(
-                    f"systemctl cannot be started: {error.strerror}; without systemd say SERVICE=pidfile"
-                ) from None
+                raise Refusal(f"systemctl cannot be started: {error.strerror}; {hint}") from None
         if done.returncode != 0:
-            more = f"journalctl -u {self.settings.unit} says more"
-            if not RUNS_SYSTEMD.is_dir():
-                more += "; systemd does not run here: without systemd say SERVICE=pidfile"
+            more = f"journalctl -u {self.settings.unit} says more" if booted else f"systemd does not run here: {hint}"
             raise Refusal(f"systemctl {' '.join(words)} ended with {done.returncode}; {more}")
         return done.stdout.decode(errors="replace").strip()
 
@@ -114,14 +113,33 @@ class PidFile:
         return self.process() is not None
 
     def start(self) -> None:
+        """Starts a keeper. The file that names it is opened before, so that none runs that no file names."""
+        self.make_folder()
         words = [sys.executable, BIN / "office", "--settings", self.settings.file, "keep"]
-        with open(self.log, "ab") as log:
+        written = self.file.with_name(self.file.name + ".new")
+        with open(self.log, "ab") as log, open(written, "w", encoding="ascii") as names:
             keeper = self.owner.start(
                 words, stdin=subprocess.DEVNULL, stdout=log, stderr=log, start_new_session=True, cwd="/"
             )
-        written = self.file.with_name(self.file.name + ".new")
-        written.write_text(f"{keeper.pid}\n{self.began(keeper.pid) or 0}\n", encoding="ascii")
+            try:
+                names.write(f"{keeper.pid}\n{self.began(keeper.pid) or 0}\n")
+                names.flush()
+            except OSError:
+                keeper.terminate()
+                raise
         os.replace(written, self.file)
+
+    def make_folder(self) -> None:
+        """Makes the folder of the file for the owner if it is not there, as /run has lost it after a boot."""
+        folder = self.file.parent
+        if folder.is_dir():
+            return
+        try:
+            folder.mkdir(mode=0o750)
+        except PermissionError:
+            with self.owner.caller():
+                folder.mkdir(mode=0o750)
+                self.owner.give(folder)
 
     def stop(self) -> None:
         process = self.process()

@@ -167,6 +167,11 @@ class Owner:
             if self.entry:
                 os.seteuid(self.entry.pw_uid)
 
+    def give(self, path: Path) -> None:
+        """Makes the owner that of a file that the caller made; a link is not followed."""
+        if self.entry:
+            os.chown(path, self.entry.pw_uid, self.entry.pw_gid, follow_symlinks=False)
+
     def start(self, words: Sequence[str | Path], **options: Any) -> subprocess.Popen[bytes]:
         """Starts a program as the owner, without a way back to the caller's rights."""
         with self.caller():

@@ -480,7 +480,9 @@ class Office:
         runs = self.service.runs()
         print(f"service: {self.service.describe()}")
         does_answer = runs and answers(self.settings.port, 5)
-        print(f"port {self.settings.port}: {'answers' if does_answer else 'does not answer'}")
+        taken = not runs and listens(self.settings.port)
+        said = "another program has it" if taken else "answers" if does_answer else "does not answer"
+        print(f"port {self.settings.port}: {said}")
         database, log = self.files.sizes()
         print(f"records: {self.files.database}, {database} bytes, and {log} in its log")
         print(f"room: {shutil.disk_usage(self.files.database.parent).free} bytes free beside them")
