@@ -530,6 +530,12 @@ def unit_reads_the_settings_of_the_office(folder):
     unit = (ROOT / "packaging/wb.service").read_text()
     for name in re.findall(r"\$\{([A-Z]+)\}", unit):
         expect(hasattr(settings, name.lower()), f"the unit uses {name}, which is no setting")
+    assumed = dict(word.split("=") for word in re.search("^Environment=(.*)$", unit, re.M)[1].split())
+    bare = office.Settings(settings.file, settings.store, settings.backups)
+    for name in set(re.findall(r"\$\{([A-Z]+)\}", unit)) - {"STORE"}:  # which has to be in the settings
+        wanted = getattr(bare, name.lower()) or "/dev/null"
+        expect(assumed[name] == str(wanted), f"without {name} the unit takes {assumed[name]}, not {wanted}")
+    expect(unit.index("\nEnvironment=") < unit.index("\nEnvironmentFile="), "the settings do not count")
     for key in re.findall(r"^#([A-Z_]+)=", (ROOT / "packaging/office.conf").read_text(), re.M):
         expect(key.lower() in settings.__dataclass_fields__, f"office.conf names {key}, which is no setting")
     expect(f"User={settings.owner}\n" in unit and settings.unit == "wb.service", "the user or the unit is another")

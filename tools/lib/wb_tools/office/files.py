@@ -5,6 +5,7 @@ import contextlib
 import fcntl
 import hashlib
 import os
+import pwd
 import re
 import shutil
 import tempfile
@@ -130,7 +131,8 @@ def word_for(links: Path | None, name: str, at: int) -> str:
         with open(path, "rb"):
             pass
     except OSError as error:
-        raise Refusal(f"{name} cannot be read: {error.strerror}", WRONG_WORDS) from None
+        user = f" by the user {pwd.getpwuid(os.geteuid()).pw_name}" if isinstance(error, PermissionError) else ""
+        raise Refusal(f"{name} cannot be read{user}: {error.strerror}", WRONG_WORDS) from None
     if re.fullmatch("[!-~]+", path) or links is None:
         return path
     link = links / f"list-{at}"
