@@ -407,6 +407,8 @@ def reports_malformed_lines(folder):
             == wanted,
             f"{text[:80]}",
         )
+    for text, why in ((b"x\n" * 1000, "no line of it is one of a journal"), (b"\x1f\x8b\n", "compressed by gzip")):
+        expect(call(folder, "-", "days", said=text, status=1, message=why) == "", f"{text[:80]}")
     odd = Journal()
     odd.add(on(9, "08:00:00"), "built", take=77)  # handed out before the journal began
     odd.add(on(9, "08:00:00"), "built", take="x")

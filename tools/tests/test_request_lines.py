@@ -116,6 +116,8 @@ def are_read():
     for line in (b"gb foo_1 . amd64\r\n", b"gb foo_1 . amd64"):
         expect(list(read_requests([line], ARCHS)) == [request("gb", "foo_1", NAMED)], f"{line} is read otherwise")
     expect("not UTF-8" in str(next(read_requests([b"gb \xff . amd64\n"], ARCHS))[1]), "what is not UTF-8 is read")
+    packed = [str(one[1]) for one in read_requests([b"\xfd7zXZ\0\0\n", b"\xff\n"], ARCHS)]
+    expect(packed == ["it is compressed by xz; uncompress it"], f"{packed}")
     alone = next(read_requests([b"gb foo . ANY\n"], Archs((), "indep")))
     expect(isinstance(alone[1], Malformed) and "--arch" in str(alone[1]), f"ANY without --arch is {alone}")
 

@@ -615,6 +615,13 @@ def asks_a_serving_office(folder):
             folder, "wb-table", "--url", office.url, "queue", "s390x", "amd64", status=1,
             message=f"{office.url}, queue s390x: the office answers",
         )
+        for words, meaning in (
+            (("by-state", "amd64", "failed"), "there is no state 'failed', and the states are Needs-Build, Building,"),
+            (("by-state", "AMD64", "Failed"), "'AMD64' or 'Failed' is malformed"),
+            (("item", "amd64", "hello2"), "amd64 has no record of hello2"),
+            (("mine", "b77"), "it has no builder b77"),
+        ):
+            call(folder, "wb-table", "--url", office.url, *words, status=1, message=meaning)
         expect("nodejs" in met, f"{met}")
 
 
@@ -624,7 +631,7 @@ def says_what_an_office_did_not_answer(folder):
     wrong = [
         (
             (404, b'{"code":1,"refused":"UnknownArch"}'), 1,
-            'summary amd64: the office answers {"code":1,"refused":"UnknownArch"}',
+            'summary amd64: the office answers {"code":1,"refused":"UnknownArch"}; it has no architecture amd64',
         ),
         ((503, b'{"code":20,"refused":"Memory"}'), 1, "Memory"),
         ((200, b"<html>"), 1, "summary amd64: this is no JSON"),

@@ -234,6 +234,22 @@ def body_in_time(url: str, path: str, wait: float) -> bytes:
         time.sleep(ASK_AGAIN)
 
 
+def meaning_of(body: bytes, query: str, words: Sequence[str]) -> str:
+    """What the refusal of a query means, to stand after its name; empty if the name says it, or there is none."""
+    try:
+        refused = json.loads(body.decode())["refused"]
+    except (ValueError, RecursionError, KeyError, TypeError):
+        return ""
+    if refused == "BadName" and query == "by-state" and words[1] not in STATES:
+        return f"; there is no state {words[1]!r}, and the states are {', '.join(STATES)}"
+    meanings = {
+        "UnknownArch": f"it has no architecture {words[0]}", "UnknownBuilder": f"it has no builder {words[0]}",
+        "UnknownSource": f"{words[0]} has no record of {words[-1]}",
+        "BadName": f"{' or '.join(map(repr, words))} is malformed",
+    }
+    return f"; {meanings[refused]}" if refused in meanings else ""
+
+
 def ask(url: str, query: str, words: Sequence[str], wait: float = 0) -> Answer:
     """What a serving office answers to a query; one that does not serve yet has so many seconds to start."""
     path = "/".join(["/v1", QUERIES[query][1], *(urllib.parse.quote(word, safe="") for word in words)])
@@ -247,7 +263,7 @@ def ask(url: str, query: str, words: Sequence[str], wait: float = 0) -> Answer:
     try:
         answer = read_answer(body)
     except Refused as why:
-        raise Refused(f"{url}, {asked}: {why}") from None
+        raise Refused(f"{url}, {asked}: {why}{meaning_of(body, query, words)}") from None
     if answer is None:
         raise Refused(f"{url}, {asked}: this is the answer to a command")
     return answer

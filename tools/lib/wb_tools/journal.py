@@ -10,7 +10,7 @@ from collections.abc import Iterable, Iterator
 from dataclasses import dataclass, field
 from typing import IO, Any
 
-from wb_tools.lists import Refused
+from wb_tools.lists import Refused, compressor_of
 
 TIME = re.compile(r"(\d{4})-(\d\d)-(\d\d)T(\d\d):(\d\d):(\d\d)Z")
 BEGIN = b'{"accepted":'
@@ -126,6 +126,9 @@ def is_front(line: bytes) -> bool:
 def read_journal(name: str, file: IO[bytes]) -> Iterator[Entry | Refused]:
     """The entries of a journal, and of each line that is none why it is none. A line that was cut off is a `Cut`."""
     for number, line in enumerate(file, 1):
+        if number == 1 and (program := compressor_of(line)):
+            yield Refused(f"{name}: it is compressed by {program}; uncompress it, since a journal is text")
+            return
         if not line.strip():
             continue
         place = f"{name}, line {number}"

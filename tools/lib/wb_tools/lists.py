@@ -192,13 +192,17 @@ def paragraphs(path: Path, is_ended: bool = True) -> Iterator[Paragraph]:
             raise Refused(f"{path}: paragraph {number}, the last: {CUT}")
 
 
+def compressor_of(start: bytes) -> str:
+    """The program by which a file is compressed that begins so; empty for a text."""
+    return next((program for magic, program in COMPRESSED.items() if start.startswith(magic)), "")
+
+
 def check_text(path: Path, file: BufferedReader) -> None:
     """Refuses a list that is compressed, or that has the marks of a text of another system, as its first bytes show;
     they are not taken out of the file, which may be a pipe."""
     start = file.peek(max(map(len, COMPRESSED)))
-    for magic, program in COMPRESSED.items():
-        if start.startswith(magic):
-            raise Refused(f"{path}: it is compressed by {program}; uncompress it, since a list is text")
+    if program := compressor_of(start):
+        raise Refused(f"{path}: it is compressed by {program}; uncompress it, since a list is text")
     if start.startswith(codecs.BOM_UTF8):
         raise Refused(f"{path}: paragraph 1, line 1: it begins with a byte order mark; take it out")
     if start.partition(b"\n")[0].endswith(b"\r"):
@@ -344,9 +348,12 @@ def put_in_place(paths: list[Path], dropped: Container[Path] = ()) -> Iterator[l
     with contextlib.ExitStack() as stack:
         files: list[IO[bytes]] = []
         for path in paths:
-            made = stack.enter_context(
-                tempfile.NamedTemporaryFile("wb", prefix=f".{path.name}.", dir=path.parent, delete=False)
-            )
+            try:
+                made = stack.enter_context(
+                    tempfile.NamedTemporaryFile("wb", prefix=f".{path.name}.", dir=path.parent, delete=False)
+                )
+            except OSError as why:  # of the file beside the path, whose name nobody gave
+                raise OSError(why.errno, why.strerror, str(path.parent)) from None
             stack.callback(Path(made.name).unlink, missing_ok=True)
             files.append(made)
         yield files

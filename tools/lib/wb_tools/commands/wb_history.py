@@ -112,6 +112,9 @@ QUESTIONS: dict[str, Callable[[History, argparse.Namespace], Iterator[Sheet]]] =
 def answer(words: argparse.Namespace) -> int:
     with contextlib.nullcontext(sys.stdin.buffer) if words.journal == "-" else open(words.journal, "rb") as file:
         history, faults = gather("standard input" if words.journal == "-" else words.journal, file)
+    wrong = [fault for fault in faults if not isinstance(fault, Cut)]
+    if wrong and history.first is None:
+        raise Refused(f"{wrong[0]}; no line of it is one of a journal")
     for fault in faults:
         say(PROGRAM, str(fault))
     if words.question == "package":
@@ -119,7 +122,7 @@ def answer(words: argparse.Namespace) -> int:
         show(package_sheet(history, words, entries), words)
     else:
         show(QUESTIONS[words.question](history, words), words)
-    return DONE if all(isinstance(fault, Cut) for fault in faults) else REFUSED
+    return REFUSED if wrong else DONE
 
 
 # ---- words

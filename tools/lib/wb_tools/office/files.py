@@ -71,7 +71,8 @@ def read_sums(folder: Path) -> dict[str, str]:
     try:
         lines = (folder / SUMS).read_text(encoding="ascii").splitlines()
     except (OSError, UnicodeDecodeError) as error:
-        raise Refusal(f"{folder} is no backup: {SUMS} cannot be read: {error}") from None
+        why = error.strerror if isinstance(error, OSError) else "it is no text"
+        raise Refusal(f"{folder} is no backup: {SUMS} cannot be read: {why}") from None
     sums = {name: digest for digest, _, name in (line.partition("  ") for line in lines)}
     if DATABASE not in sums or not set(sums) <= {DATABASE, LOG}:
         raise Refusal(f"{folder} is no backup: {SUMS} names {', '.join(sums) or 'nothing'}")

@@ -97,7 +97,8 @@ def read_settings(file: Path) -> Settings:
     try:
         lines = file.read_text(encoding="utf-8").splitlines()
     except (OSError, UnicodeDecodeError) as error:
-        raise Refusal(f"the settings cannot be read: {file}: {error}", WRONG_WORDS) from None
+        why = error.strerror if isinstance(error, OSError) else "they are no text in UTF-8"
+        raise Refusal(f"the settings cannot be read: {file}: {why}", WRONG_WORDS) from None
     for number, line in enumerate(map(str.strip, lines), 1):
         if not line or line[0] in "#;":
             continue

@@ -8,7 +8,7 @@ import shlex
 from collections.abc import Iterable, Iterator, Sequence
 from dataclasses import dataclass
 
-from wb_tools.lists import is_arch_name, is_package_name, is_version
+from wb_tools.lists import compressor_of, is_arch_name, is_package_name, is_version
 from wb_tools.requests.relations import are_relations
 from wb_tools.suites import NAME as SUITE
 
@@ -233,7 +233,10 @@ def read_requests(lines: Iterable[bytes], archs: Archs) -> Iterator[Request | tu
         try:
             request = request_of(number, line.decode().rstrip("\r\n"), archs)
         except UnicodeDecodeError:
-            yield number, Malformed("it is not UTF-8")
+            program = compressor_of(line) if number == 1 else ""
+            yield number, Malformed(f"it is compressed by {program}; uncompress it" if program else "it is not UTF-8")
+            if program:
+                return
         except Malformed as why:
             yield number, why
         else:
