@@ -131,7 +131,7 @@ def follows_a_package(folder):
         "2026-04-09 23:00:00  take       Building         1.0-1    b2          3  11 h  0 min",
         "2026-04-10 01:30:00  uploaded   Uploaded         1.0-1    b2          3   2 h 30 min",
     ]
-    note = "one merge or report of amd64 from 2026-04-09 to 2026-04-09 may have moved it too; --merges shows them"
+    note = "one merge or report of amd64 of 2026-04-09 may have moved it too; --merges shows them"
     expect_text(call(folder, "journal", "package", "amd64", "hello"), [*rows, note])
     met = call(folder, "journal", "package", "amd64", "hello", "--merges").splitlines()
     expect(

@@ -448,11 +448,15 @@ def version_stated():
 
 
 def ends_what_a_file_names(folder):
-    """With SERVICE=pidfile an upgrade starts the office anew with the new program, and a removal ends it; one that does
-    not run is not started, and a folder in which dpkg installs has no service."""
+    """With SERVICE=pidfile an upgrade starts each office anew with the new program, and a removal ends it; one that
+    does not run is not started, and a folder in which dpkg installs has no service."""
     call(["dpkg-deb", "-e", make_deb(folder)[0], folder / "scripts"])
-    trial = Trial(folder)
+    trial, other = Trial(folder), Trial(folder / "other")
+    shutil.move(other.conf, folder / "experimental.conf")  # the office of a suite beside it
+    other.conf = folder / "experimental.conf"
+    (folder / "wanna-build.conf").write_text("SUITES=sid=8080\n")
     trial.do("create")
+    other.do("create")
     commands = folder / "commands"
     commands.mkdir()
     (commands / "wb-office").symlink_to(BIN / "office")
@@ -468,8 +472,9 @@ def ends_what_a_file_names(folder):
     script("postinst", "configure", "0.1")
     expect(not pid_file.exists(), "an upgrade starts an office that did not run")
     trial.do("start")
+    other.do("start")
     try:
-        before = pid_file.read_text()
+        before, keeper = pid_file.read_text(), other.keeper()
         for words, more in (
             (("postinst", "configure", ""), {}), (("prerm", "upgrade", "0.2"), {}),
             (("prerm", "remove"), {"DPKG_ROOT": "/nowhere"}),
@@ -478,14 +483,18 @@ def ends_what_a_file_names(folder):
             expect(pid_file.read_text() == before, f"{words} ends the office")
         script("postinst", "configure", "0.1")
         expect(pid_file.read_text() != before, "an upgrade leaves the old program running")
+        expect(other.keeper() != keeper, "an upgrade leaves the old program running for another suite")
         trial.do("status")
+        other.do("status")
         script("prerm", "remove")
         trial.do("status", wanted=3)
+        other.do("status", wanted=3)
         expect(not pid_file.exists(), "a removal leaves the program running")
         pid_file.write_text("what no command wrote")
         expect("may go on being served" in script("prerm", "remove"), "what cannot be ended is not said")
     finally:
         pid_file.unlink(missing_ok=True)
+        other.do("stop")
 
 
 def has_all_pages(folder):

@@ -49,7 +49,8 @@ def package_sheet(history: History, words: argparse.Namespace, entries: list[Ent
     notes = []
     if entries and not words.merges:
         which = f"{len(entries):,} merges and reports" if len(entries) > 1 else "one merge or report"
-        days = f"from {day_of(entries[0].at)} to {day_of(entries[-1].at)}"
+        first, last = day_of(entries[0].at), day_of(entries[-1].at)
+        days = f"from {first} to {last}" if first != last else f"of {first}"
         notes = [f"{which} of {printable(words.arch)} {days} may have moved it too; --merges shows them"]
     title = f"{printable(words.source)} on {printable(words.arch)}: {counted(len(moves), 'command')} of the journal"
     yield Sheet(title, columns, rows, notes, ("version", "after"))

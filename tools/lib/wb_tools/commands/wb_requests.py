@@ -59,6 +59,7 @@ office does not answer: nothing after that is sent. Messages are on standard err
 OUTCOME = "CHANGE OR REASON"
 HEADS = ("LINE", "REQUEST", "SUITE", "ARCH", "PACKAGE", "ANSWER", OUTCOME)
 KINDS = {"PACKAGE": NAME, OUTCOME: REASON}
+SPARE = {"REQUEST": 1}  # what the number of the line says too
 
 
 def table_of(rows: Sequence[Row], simulates: bool, limit: int) -> Iterator[str]:
@@ -70,7 +71,9 @@ def table_of(rows: Sequence[Row], simulates: bool, limit: int) -> Iterator[str]:
         cells = (str(request.line), word, request.suite, row.order.arch, str(row.order.package), row.answer, row.what)
         for found, cell in zip(texts.values(), cells):
             found.append(printable(cell))
-    columns = [Column(head, found, head == "LINE", KINDS.get(head, WHOLE)) for head, found in texts.items()]
+    columns = [
+        Column(head, found, head == "LINE", KINDS.get(head, WHOLE), SPARE.get(head, 0)) for head, found in texts.items()
+    ]
     yield from lines_of(columns, limit)
     counts = collections.Counter(row.answer for row in rows)
     order = (ACCEPTED, ORDER_REFUSED, ABSENT, NO_ANSWER, NOT_SENT)
