@@ -615,14 +615,21 @@ def asks_a_serving_office(folder):
             folder, "wb-table", "--url", office.url, "queue", "s390x", "amd64", status=1,
             message=f"{office.url}, queue s390x: the office answers",
         )
-        for words, meaning in (
-            (("by-state", "amd64", "failed"), "there is no state 'failed', and the states are Needs-Build, Building,"),
-            (("by-state", "AMD64", "Failed"), "'AMD64' or 'Failed' is malformed"),
-            (("item", "amd64", "hello2"), "amd64 has no record of hello2"),
-            (("mine", "b77"), "it has no builder b77"),
-        ):
-            call(folder, "wb-table", "--url", office.url, *words, status=1, message=meaning)
         expect("nodejs" in met, f"{met}")
+
+
+def says_what_a_refused_query_means(folder):
+    for refused, query, words, meaning in (
+        ("BadName", "by-state", ("amd64", "failed"), "; there is no state 'failed', and the states are Needs-Build,"),
+        ("BadName", "by-state", ("AMD64", "Failed"), "; 'AMD64' or 'Failed' is malformed"),
+        ("UnknownSource", "item", ("amd64", "hello2"), "; amd64 has no record of hello2"),
+        ("UnknownBuilder", "mine", ("b77",), "; it has no builder b77"),
+    ):
+        body = json.dumps({"code": 1, "refused": refused}).encode()
+        met = office_answers.meaning_of(body, query, words)
+        expect(met.startswith(meaning), met)
+    for body in (b"", b"[]", b'{"http":"NoRoute"}', b'{"code":20,"refused":"Memory"}', b"\xff"):
+        expect(office_answers.meaning_of(body, "summary", ("amd64",)) == "", f"{body} means something")
 
 
 def says_what_an_office_did_not_answer(folder):
@@ -760,6 +767,9 @@ TESTS += [
     makes_the_page_of_the_example, asks_for_what_it_shows, escapes_each_text, shortens_long_tables,
     asks_a_serving_office,
 ]
-TESTS += [waits_for_an_office_that_starts, says_what_an_office_did_not_answer, shows_what_the_program_answers]
+TESTS += [
+    waits_for_an_office_that_starts, says_what_a_refused_query_means, says_what_an_office_did_not_answer,
+    shows_what_the_program_answers,
+]  # fmt: skip
 if __name__ == "__main__":
     sys.exit(main(TESTS))

@@ -158,7 +158,9 @@ class PidFile:
         process = self.process()
         if process is not None:
             return f"{self.file} names process {process}, which runs"
-        return f"{self.file} names a process that is gone" if self.file.exists() else f"{self.file} is not there"
+        if self.file.exists():
+            return f"{self.file} names a process that is gone; {self.log} says why"
+        return f"{self.file} is not there"
 
     def where(self) -> str:
         return str(self.log)
