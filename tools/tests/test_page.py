@@ -15,7 +15,7 @@ import time
 from harness import ROOT, expect, main
 from look_runs import in_browser
 from test_history import Journal, call, example, on
-from test_status import counts, line, page_of, record
+from test_status import StandIn, counts, expect_the_example, line, page_of, record
 from wb_tools.style import STYLE
 
 EXAMPLE = ROOT / "examples" / "status"
@@ -116,6 +116,51 @@ def reads_several_journals(folder):
     page(folder, b"", "--journal", "none", "--journal", "journal", "answers", status=3, message="none: No such file")
 
 
+UNKNOWN = (404, b'{"code":1,"refused":"UnknownArch"}')
+
+
+def shows_several_suites(folder):
+    """One page of the offices of several suites, each with what its own journal says; what one of them lacks is left
+    out there. The suite of a single office is not shown."""
+    journal = Journal(4)
+    take = journal.hand_out(on(11, "13:00:00"), "b7", "zlib", "1:1.4~rc1-1")
+    (folder / "of=experimental").write_bytes(journal.data())
+    held = record("zlib", "Building", holder="b7", take=take, build="1:1.4~rc1-1")
+    others = {
+        "/v1/summary/arm64": UNKNOWN,
+        "/v1/summary/amd64": (200, line(accepted=5, arch="amd64", counts=counts(Building=1, Installed=40))),
+        "/v1/queue/amd64": (200, line(arch="amd64", queue=[])),
+        "/v1/state/amd64/Building": (200, line(arch="amd64", records=[held], state="Building")),
+    }
+    with StandIn() as sid, StandIn(others) as later:
+        archs = ["--arch", "amd64", "--arch", "arm64"]
+        urls = ["--url", f"sid={sid.url}", "--url", f"experimental={later.url}"]
+        text = page(folder, b"", *urls, *archs, "--journal", "experimental=of=experimental")
+        found = page_of(text)
+        rows = found.tables["All suites and architectures"][0]
+        wanted = [("sid amd64", "2"), ("sid arm64", "1"), ("experimental amd64", "1")]
+        expect(rows[0][0] == "Suite and architecture" and [(one[0], one[3]) for one in rows[1:]] == wanted, f"{rows}")
+        expect(re.findall("<h2 [^>]*>(.*?)</h2>", text) == [one for one, _ in wanted], "the heads of the parts")
+        builds = found.tables["Who builds what"]
+        expect([len(one[0]) for one in builds] == [3, 3, 4], f"what has times: {builds}")
+        expect(builds[2][1] == ["zlib 1:1.4~rc1-1", "b7", "1", "2026-04-11 13:00"], f"{builds[2]}")
+        expect(len(found.tables["Built on each day"]) == 1, "the days of a journal that is not there")
+        expect("after 30 accepted commands" in found.text, "the commands of both")
+        expect_the_example(page(folder, b"", "--url", f"sid={sid.url}", *archs, now=1776000000))
+        alone = page(folder, b"", "--url", later.url, "--arch", "amd64", "--journal", "of=experimental")
+        named = page(folder, b"", *urls[2:], "--arch", "amd64", "--journal", "experimental=of=experimental")
+        expect("2026-04-11 13:00" in alone and named == alone, "the page of one office")
+        for words, status, message in (
+            ([*urls, "--arch", "s390x"], 1, "summary s390x"),
+            ([*urls[2:], "--arch", "arm64"], 1, "UnknownArch"),
+            ([*urls, *urls[:2], *archs], 2, "each has to have its own suite"),
+            ([*urls, "--url", sid.url, *archs], 2, "each has to have its own suite"),
+            ([*urls, *archs, "--journal", "of=experimental"], 2, "--journal of: it has to begin with the suite"),
+            (["--url", "../x=http://127.0.0.1:1", *archs], 2, "is no address of a serving office"),
+        ):
+            page(folder, b"", *words, status=status, message=message)
+
+
 # ---- in a browser
 
 # How wide the page is; what is broken inside a word; how many tables and captions it has; the gap of its bars.
@@ -158,13 +203,20 @@ def odd_page(folder):
     return page(folder, said, "--title", "T" * 300)
 
 
+def suites_page(folder):
+    """A page of two suites, one of them with a name that no phone shows in one line."""
+    with StandIn() as office:
+        urls = (word for suite in ("experimental", "s" * 60) for word in ("--url", f"{suite}={office.url}"))
+        return page(folder, b"", *urls, "--arch", "amd64", "--arch", "arm64")
+
+
 def fits_phones_and_desks(folder):
     """Nothing is wider than the screen, and no text is broken inside a word, a version or a time."""
     said, journal = sample()
     (folder / "journal").write_bytes(journal.data())
     pages = [
         page(folder, said, "--journal", "journal"), page(folder, said), page(folder, b"", EXAMPLE / "answers"),
-        odd_page(folder),
+        odd_page(folder), suites_page(folder),
     ]
     for at, text in enumerate(pages):
         looks = in_browser(folder, text, WIDTHS, LOOK % UNBROKEN, DARK if at % 2 else LIGHT)
@@ -219,8 +271,8 @@ def has_colors_that_are_seen():
 
 
 TESTS = [
-    parts_builds_from_uploads, has_numbers_beside_bars, reads_several_journals, fits_phones_and_desks,
-    says_in_red_that_it_is_old, has_colors_that_are_seen,
+    parts_builds_from_uploads, has_numbers_beside_bars, reads_several_journals, shows_several_suites,
+    fits_phones_and_desks, says_in_red_that_it_is_old, has_colors_that_are_seen,
 ]
 if __name__ == "__main__":
     sys.exit(main(TESTS))

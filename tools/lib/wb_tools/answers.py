@@ -15,6 +15,7 @@ from pathlib import Path
 from typing import IO, Any
 
 from wb_tools.lists import Refused, a_form, say
+from wb_tools.suites import NAME as SUITE
 
 DONE, REFUSED, WORDS, FAILED = 0, 1, 2, 3
 WAIT = 60  # seconds for one answer of a serving office
@@ -40,6 +41,10 @@ QUERIES = {
 
 
 # ---- what is answered
+
+
+class UnknownArch(Refused):
+    """An office answers that it does not have the architecture."""
 
 
 @dataclass(frozen=True, slots=True)
@@ -140,7 +145,8 @@ def answer_in(found: object) -> Answer | None:
         raise Refused("this is no object of JSON")
     for key in ("refused", "fault", "http"):
         if key in found:
-            raise Refused("the office answers " + text_of(found))
+            kind = UnknownArch if found[key] == "UnknownArch" else Refused
+            raise kind("the office answers " + text_of(found))
     if "ok" in found:
         return None
     marks = {"queue": Queue, "counts": Summary, "depends": Depends, "builder": Mine, "records": ByState}
@@ -190,6 +196,17 @@ url_word = a_form(
 )
 
 
+def suite_url(word: str) -> tuple[str, str]:
+    """For argparse: URL or SUITE=URL of a serving office on this machine; the suite is empty if none is named."""
+    suite, url = ("", word) if word.startswith("http:") else (word.partition("=")[0], word.partition("=")[2])
+    if not is_loopback(url) or (suite and not SUITE.fullmatch(suite)) or (not suite and url != word):
+        raise argparse.ArgumentTypeError(
+            f"{word[:100]!r} is no address of a serving office on this machine, as http://127.0.0.1:8080, nor one "
+            "after a suite, as sid=http://127.0.0.1:8080"
+        )
+    return suite, url
+
+
 def seconds_word(word: str) -> int:
     if not (word.isascii() and word.isdigit() and len(word) < 6):
         raise argparse.ArgumentTypeError(f"{word[:100]!r} is no number of seconds")
@@ -201,6 +218,10 @@ def add_url_options(parser: argparse.ArgumentParser) -> None:
     parser.add_argument(
         "--url", metavar="URL", type=url_word, help="ask the office that serves there, such as http://127.0.0.1:8080"
     )
+    add_wait_option(parser)
+
+
+def add_wait_option(parser: argparse.ArgumentParser) -> None:
     parser.add_argument(
         "--wait", metavar="SECONDS", type=seconds_word, default=START,
         help="how long to ask an office again that does not serve yet, as while it starts, else %(default)s",
@@ -263,7 +284,7 @@ def ask(url: str, query: str, words: Sequence[str], wait: float = 0) -> Answer:
     try:
         answer = read_answer(body)
     except Refused as why:
-        raise Refused(f"{url}, {asked}: {why}{meaning_of(body, query, words)}") from None
+        raise type(why)(f"{url}, {asked}: {why}{meaning_of(body, query, words)}") from None
     if answer is None:
         raise Refused(f"{url}, {asked}: this is the answer to a command")
     return answer

@@ -21,9 +21,12 @@ LONGEST_BUILD = 32  # the same for a version, which is written smaller, and is n
 
 @dataclass(slots=True)
 class Arch:
-    """What was answered of an architecture."""
+    """What was answered of an architecture: by the office of a suite, whose name is empty if there is but one office;
+    and what the journals of this office say, if there are some."""
 
     name: str
+    suite: str = ""
+    history: History | None = None
     summary: Summary | None = None
     queue: Queue | None = None
     lists: dict[str, list[Record]] = field(default_factory=dict)
@@ -39,6 +42,14 @@ class Arch:
     def records(self, *states: str) -> list[Record]:
         return [record for state in states for record in self.lists.get(state, [])]
 
+    @property
+    def title(self) -> str:
+        return f"{self.suite} {self.name}".lstrip()
+
+    def place(self, name: str = "") -> str:
+        """A place of the page to which a link leads: all of the architecture, or a part of it."""
+        return html.escape("-".join(filter(None, (self.suite, self.name, name.replace(" ", "-").lower()))))
+
 
 # ---- the page
 
@@ -48,20 +59,19 @@ def shown(text: str) -> str:
     return html.escape(printable(text))
 
 
-def place_of(arch: str, name: str) -> str:
-    """A place of the page to which a link leads; names of architectures have no character that HTML would mind."""
-    return html.escape(f"{arch}-{name}".replace(" ", "-").lower())
-
-
 def package(record: Record) -> str:
     """A cell with a package, what is built of it, and why it is rebuilt."""
     return name_cell(record.source, record.build, record.message)
 
 
+def is_long(*texts: str) -> bool:
+    """Whether one of these texts has a word that no phone shows in one line, and may be broken."""
+    return any(len(word) > LONGEST_WORD for text in texts for word in re.split("[ -]", printable(text)))
+
+
 def cell(kind: str, content: str, *texts: str) -> str:
-    """A cell of a kind. Where one of these texts has a word that no phone shows in one line, it may be broken."""
-    is_long = any(len(word) > LONGEST_WORD for text in texts for word in re.split("[ -]", printable(text)))
-    return f'<td class="{kind}{" long" if is_long else ""}">{content}</td>'
+    """A cell of a kind, which shows these texts."""
+    return f'<td class="{kind}{" long" if is_long(*texts) else ""}">{content}</td>'
 
 
 def name_cell(source: str, build: str, message: str = "") -> str:
@@ -137,7 +147,7 @@ def ordered(summary: Summary) -> dict[str, int]:
 def counts_table(arch: Arch, counts: dict[str, int], links: dict[str, str]) -> Iterator[str]:
     """How many packages are in each state, with a link to those that are shown by name."""
     total = sum(counts.values())
-    yield f'<table class="counts" id="{place_of(arch.name, "states")}">'
+    yield f'<table class="counts" id="{arch.place("states")}">'
     yield "<caption>Packages in each state</caption>"
     yield '<thead><tr><th scope="col">State</th><th scope="col" class="number">Packages</th></tr></thead>'
     yield "<tbody>"
@@ -155,11 +165,11 @@ def queue_table(arch: Arch, words: argparse.Namespace) -> Iterator[str]:
         return
     waiting = arch.queue.queue
     if not waiting:
-        yield f'<p id="{place_of(arch.name, "queue")}">The queue is empty.</p>'
+        yield f'<p id="{arch.place("queue")}">The queue is empty.</p>'
         return
     rows = [row(number(at), name_cell(one.source, one.build)) for at, one in enumerate(waiting, 1)]
     caption = f"The queue: {counted(len(waiting))}"
-    yield from table(place_of(arch.name, "queue"), caption, ["Place", "Package"], rows, words.first)
+    yield from table(arch.place("queue"), caption, ["Place", "Package"], rows, words.first)
 
 
 def since(record: Record, history: History) -> int | None:
@@ -187,25 +197,25 @@ def clock(at: int) -> str:
 def days_table(arch: Arch, words: argparse.Namespace) -> Iterator[str]:
     """How many packages were built on each of the last days, the last first, if there is a journal; not on days before
     its first line."""
-    if words.history and words.history.first:
-        days, first = built_by_day(words.history), day_of(words.history.first.at)
+    if arch.history and arch.history.first:
+        days, first = built_by_day(arch.history), day_of(arch.history.first.at)
         last = [day for day in (day_of(words.now - 86400 * at) for at in range(DAYS)) if day >= first]
         built = {day: days.get(day, {}).get(arch.name, 0) for day in last}
         rows = [row(f'<td class="day">{html.escape(day)}</td>', number(count)) for day, count in built.items()]
-        yield from table(place_of(arch.name, "days"), "Built on each day", ["Day", "Packages"], rows, DAYS)
+        yield from table(arch.place("days"), "Built on each day", ["Day", "Packages"], rows, DAYS)
 
 
 def lists_of(arch: Arch, words: argparse.Namespace) -> Iterator[str]:
     """The tables of what is held, waits, cannot be installed or failed."""
-    heads = ["Package", "Builder", "Take", *(["Since"] if words.history else [])]
+    heads = ["Package", "Builder", "Take", *(["Since"] if arch.history else [])]
     for state, caption in HOLDS.items():
         of_builder = state == "Building"  # what is built now, by its builder; what was reported, the oldest first
         held = sorted(arch.records(state), key=lambda one: ((one.holder or "") if of_builder else "", one.take or 0))
-        rows = [row(*held_cells(one, words.history)) for one in held]
-        yield from table(place_of(arch.name, state), caption, heads, rows, words.rows)
+        rows = [row(*held_cells(one, arch.history)) for one in held]
+        yield from table(arch.place(state), caption, heads, rows, words.rows)
     for state, (caption, head) in REASONS.items():
         rows = [row(package(one), text_cell(one.waits or one.note)) for one in arch.records(state)]
-        yield from table(place_of(arch.name, state), caption, ["Package", head], rows, words.rows)
+        yield from table(arch.place(state), caption, ["Package", head], rows, words.rows)
 
 
 # The tables of what builders hold.
@@ -230,12 +240,12 @@ def section(arch: Arch, words: argparse.Namespace) -> Iterator[str]:
     counts = ordered(arch.summary)
     total, left = sum(counts.values()), {state: count for state, count in counts.items() if state not in DONE_STATES}
     links = {
-        state: place_of(arch.name, name)
+        state: arch.place(name)
         for state, name in PLACES.items()
         if arch.lists.get(state) or (name == "queue" and arch.queue)
     }
-    yield f'<section id="{html.escape(arch.name)}" aria-labelledby="{place_of(arch.name, "head")}">'
-    yield f'<h2 id="{place_of(arch.name, "head")}">{shown(arch.name)}</h2>'
+    yield f'<section id="{arch.place()}" aria-labelledby="{arch.place("head")}">'
+    yield f'<h2 id="{arch.place("head")}">{shown(arch.title)}</h2>'
     if not total:
         yield "<p>It has no packages.</p></section>"
         return
@@ -268,12 +278,16 @@ def overview(archs: Sequence[Arch]) -> Iterator[str]:
     """All architectures beside one another, if there are several, with what the colors of the bars mean."""
     if len(archs) < 2:
         return
-    yield '<table class="overview"><caption>All architectures</caption>'
+    caption, first = "All architectures", "Architecture"
+    if any(arch.suite for arch in archs):
+        caption, first = "All suites and architectures", "Suite and architecture"
+    yield f'<table class="overview"><caption>{caption}</caption>'
     heads = "".join(f'<th scope="col" class="number">{head}</th>' for head in FIGURES)
-    yield f'<thead><tr><th scope="col">Architecture</th><th scope="col">States</th>{heads}</tr></thead><tbody>'
+    yield f'<thead><tr><th scope="col">{first}</th><th scope="col">States</th>{heads}</tr></thead><tbody>'
     for arch in archs:
         counts = ordered(arch.summary) if arch.summary else {}
-        name = f'<th scope="row"><a href="#{html.escape(arch.name)}">{shown(arch.name)}</a></th>'
+        kind = ' class="long"' if is_long(arch.title) else ""
+        name = f'<th scope="row"{kind}><a href="#{arch.place()}">{shown(arch.title)}</a></th>'
         figures = (
             number(sum(counts.get(state, 0) for state in states), head.lower().replace(" ", "-"))
             for head, states in FIGURES.items()
@@ -286,8 +300,15 @@ def overview(archs: Sequence[Arch]) -> Iterator[str]:
     yield f'<ul class="legend" aria-label="The colors of the states">{marks}</ul>' if marks else ""
 
 
+def accepted_by(archs: Sequence[Arch]) -> int:
+    """How many commands all offices had accepted, each at its last answer."""
+    found: dict[str, int] = {}
+    for arch in archs:
+        found[arch.suite] = max(found.get(arch.suite, 0), arch.summary.accepted if arch.summary else 0)
+    return sum(found.values())
+
+
 def page(archs: Sequence[Arch], words: argparse.Namespace) -> Iterator[str]:
-    accepted = max((arch.summary.accepted for arch in archs if arch.summary), default=0)
     asked = datetime.datetime.fromtimestamp(words.now, datetime.timezone.utc)
     yield "<!DOCTYPE html>"
     yield '<html lang="en"><head><meta charset="utf-8">'
@@ -300,13 +321,14 @@ def page(archs: Sequence[Arch], words: argparse.Namespace) -> Iterator[str]:
     yield f"<header><h1>{shown(words.title)}</h1>"
     yield (
         f'<p>As of <time id="made" datetime="{asked:%Y-%m-%dT%H:%M:%SZ}" data-due="{words.due}">{clock(words.now)} UTC'
-        f'</time>, after {counted(accepted, "accepted command")}. <span id="age" role="status"></span></p>'
+        f'</time>, after {counted(accepted_by(archs), "accepted command")}. <span id="age" role="status"></span></p>'
     )
     yield "</header><main>"
     yield from overview(archs)
     for arch in archs:
         yield from section(arch, words)
-    times = "Days and times are those of its journal, in UTC." if words.history else "It keeps no times."
+    has_times = any(arch.history for arch in archs)
+    times = "Days and times are those of its journal, in UTC." if has_times else "It keeps no times."
     yield (
         "</main><footer><p>Each table is an answer of its own, and the office may have gone on between two of them. "
         f"{times}</p></footer>"

@@ -47,7 +47,7 @@ a { color: var(--link); }
 table { border-collapse: collapse; width: 100%; margin: 1rem 0; }
 caption { text-align: left; font-weight: 600; padding-bottom: .3rem; }
 th, td { text-align: left; vertical-align: top; padding: .3rem .5rem; border-top: 1px solid var(--line); }
-.long, .overview tbody th, .counts tbody th { overflow-wrap: anywhere; }
+.long, .counts tbody th { overflow-wrap: anywhere; }
 thead th { background: var(--head); font-weight: 600; font-size: .85rem; color: var(--quiet); }
 tbody th, tfoot th { font-weight: 400; }
 tfoot th, tfoot td { font-weight: 600; }

@@ -9,13 +9,12 @@ from collections.abc import Iterator, Sequence
 from pathlib import Path
 
 from wb_tools import outlive_readers
-from wb_tools.answers import DONE, FAILED, REFUSED, START, WORDS, is_loopback, printable, seconds_word
+from wb_tools.answers import DONE, FAILED, REFUSED, START, WORDS, printable, seconds_word, suite_url
 from wb_tools.columns import NAME, REASON, WHOLE, Column, lines_of
 from wb_tools.lists import arch_word, parser_of, say
 from wb_tools.requests.commands import Order
 from wb_tools.requests.lines import Archs, Malformed, Request, read_requests
 from wb_tools.requests.sending import ABSENT, ACCEPTED, NO_ANSWER, NOT_SENT, REFUSED as ORDER_REFUSED, Desk, Row
-from wb_tools.suites import NAME as SUITE
 from wb_tools.wanna_build.office import Office
 
 PROGRAM = "wb-requests"
@@ -130,12 +129,7 @@ def run_lines(requests: Sequence[Request]) -> Iterator[str | tuple[int, Malforme
 
 def office_word(word: str) -> tuple[str, Office]:
     """For argparse: URL or SUITE=URL, with the office that serves there."""
-    suite, url = ("", word) if word.startswith("http:") else (word.partition("=")[0], word.partition("=")[2])
-    if not is_loopback(url) or (suite and not SUITE.fullmatch(suite)) or (not suite and url != word):
-        raise argparse.ArgumentTypeError(
-            f"{word[:100]!r} is no address of a serving office on this machine, as http://127.0.0.1:8080, nor one "
-            "after a suite, as sid=http://127.0.0.1:8080"
-        )
+    suite, url = suite_url(word)
     return suite, Office(urllib.parse.urlsplit(url).port or 80, ANSWER)
 
 

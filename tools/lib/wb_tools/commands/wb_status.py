@@ -8,7 +8,9 @@ from collections.abc import Iterator
 from pathlib import Path
 
 from wb_tools import outlive_readers
-from wb_tools.answers import DONE, FAILED, REFUSED, Answer, ByState, Queue, Summary, add_url_options, ask, read_lines
+from wb_tools.answers import (
+    DONE, FAILED, REFUSED, Answer, ByState, Queue, Summary, UnknownArch, add_wait_option, ask, read_lines, suite_url,
+)
 from wb_tools.journal import Cut, Entry, History, read_journal
 from wb_tools.lists import Refused, arch_word, parser_of, put_in_place, say
 from wb_tools.page import LISTED, Arch, page
@@ -19,9 +21,10 @@ and as numbers, the head of the queue, who builds what, what waits for what, wha
 with its note. The page loads nothing and can be read on a phone. Its one script says how old the page is, and says it
 in red once it is older than --due MINUTES.
 
-With --url a serving office on this machine is asked. Else the answers are read from files, or from standard input if
-none is named or `-` is; --queries prints the lines to which they are the answers. The last answer to a query counts. An
-architecture without a `summary` is not shown.
+With --url a serving office on this machine is asked. With several, each after its suite, one page shows the offices of
+all these suites; an architecture that one of them does not have is left out there. Else the answers are read from
+files, or from standard input if none is named or `-` is; --queries prints the lines to which they are the answers. The
+last answer to a query counts. An architecture without a `summary` is not shown.
 
 The queries are asked one after another, and the office may go on between them. The office keeps no times; with
 --journal, the file that `wb serve --journal FILE` writes, the page also shows since when each package is built, or was
@@ -29,26 +32,32 @@ reported as built or uploaded, and how many were built on each day since the fir
 cannot be read is reported on standard error and left out."""
 EXAMPLE = """  tools/bin/wb-status --url http://127.0.0.1:8080 --arch amd64 --arch arm64 --to /var/www/html/status.html
   tools/bin/wb-status --url http://127.0.0.1:8080 --arch amd64 --journal journal --to status.html
+  tools/bin/wb-status --url sid=http://127.0.0.1:8080 --url experimental=http://127.0.0.1:8081 --arch amd64 \\
+      --journal sid=office.journal --journal experimental=experimental/office.journal --to status.html
   tools/bin/wb-status --arch amd64 --queries | wb --store office.db run | tools/bin/wb-status --to status.html"""
 STATUSES = """Status: 0 if the page was made; 1 if an answer is a refusal or a fault, or cannot be read, and 2 if the
 words of the command line are wrong; 3 if a file cannot be read or written, or the office does not answer. Messages are
 on standard error. After all but 0 no page was put in place."""
 
 
-
-
 # ---- where answers come from
 
 
-def asked(words: argparse.Namespace) -> Iterator[Answer]:
-    """What a serving office answers; the packages in a state are asked for only if there are some."""
+def asked(url: str, words: argparse.Namespace) -> Iterator[Answer]:
+    """What a serving office answers; the packages in a state are asked for only if there are some. Of several offices
+    one may lack an architecture."""
     for arch in words.arch:
-        summary = ask(words.url, "summary", [arch], words.wait)
+        try:
+            summary = ask(url, "summary", [arch], words.wait)
+        except UnknownArch:
+            if len(words.url) < 2:
+                raise
+            continue
         yield summary
-        yield ask(words.url, "queue", [arch], words.wait)
+        yield ask(url, "queue", [arch], words.wait)
         for state in LISTED:
             if isinstance(summary, Summary) and summary.counts.get(state):
-                yield ask(words.url, "by-state", [arch, state], words.wait)
+                yield ask(url, "by-state", [arch, state], words.wait)
 
 
 def read(words: argparse.Namespace) -> Iterator[Answer]:
@@ -61,19 +70,28 @@ def read(words: argparse.Namespace) -> Iterator[Answer]:
                     yield answer
 
 
-def gathered(words: argparse.Namespace) -> list[Arch]:
-    """The architectures in the order in which they are named, else in that of their first answers."""
-    found = {name: Arch(name) for name in words.arch}
-    for answer in asked(words) if words.url else read(words):
+def gathered(suite: str, answers: Iterator[Answer], words: argparse.Namespace) -> list[Arch]:
+    """The architectures of an office in the order in which they are named, else in that of their first answers."""
+    found = {name: Arch(name, suite) for name in words.arch}
+    for answer in answers:
         if isinstance(answer, (Summary, Queue, ByState)):
-            found.setdefault(answer.arch, Arch(answer.arch)).take(answer)
-    archs = [arch for arch in found.values() if not words.arch or arch.name in words.arch]
-    without = [arch.name for arch in archs if arch.summary is None]
-    if without and words.arch:
-        raise Refused(f"there is no answer to `summary {without[0]}`")
-    archs = [arch for arch in archs if arch.summary]
-    if not archs:
-        raise Refused("there is no answer to `summary`")
+            found.setdefault(answer.arch, Arch(answer.arch, suite)).take(answer)
+    return [arch for arch in found.values() if arch.summary and arch.name in (words.arch or found)]
+
+
+def all_gathered(words: argparse.Namespace) -> list[Arch]:
+    """The architectures of all offices, each with what the journals of its office say."""
+    names: dict[str, list[str]] = {}
+    for suite, name in words.journal:
+        names.setdefault(suite, []).append(name)
+    histories = {suite: read_history(found) for suite, found in names.items()}
+    offices = [(suite, asked(url, words)) for suite, url in words.url] or [("", read(words))]
+    archs = [arch for suite, answers in offices for arch in gathered(suite, answers, words)]
+    without = [name for name in words.arch if name not in {arch.name for arch in archs}]
+    if without or not archs:
+        raise Refused(f"there is no answer to `{' '.join(['summary', *without[:1]])}`")
+    for arch in archs:
+        arch.history = histories.get(arch.suite)
     return archs
 
 
@@ -102,8 +120,7 @@ def make(words: argparse.Namespace) -> None:
         for arch in words.arch:
             print("\n".join([f"summary {arch}", f"queue {arch}", *(f"by-state {arch} {state}" for state in LISTED)]))
         return
-    words.history = read_history(words.journal) if words.journal else None
-    data = "".join(f"{line}\n" for line in page(gathered(words), words)).encode()
+    data = "".join(f"{line}\n" for line in page(all_gathered(words), words)).encode()
     if words.to is None:
         sys.stdout.buffer.write(data)
         sys.stdout.buffer.flush()
@@ -124,7 +141,11 @@ def least(bound: int, what: str):  # type: ignore[no-untyped-def]
 def parser_of_words() -> argparse.ArgumentParser:
     parser = parser_of(DESCRIPTION, EXAMPLE, STATUSES)
     parser.add_argument("answers", metavar="FILE", nargs="*", help="files of answers, if --url is not given")
-    add_url_options(parser)
+    parser.add_argument(
+        "--url", metavar="[SUITE=]URL", type=suite_url, action="append", default=[],
+        help="ask the office that serves there, such as http://127.0.0.1:8080; of several each after its suite",
+    )
+    add_wait_option(parser)
     parser.add_argument(
         "--arch", metavar="ARCH", type=arch_word, action="append", default=[],
         help="an architecture; may be given several times",
@@ -144,9 +165,9 @@ def parser_of_words() -> argparse.ArgumentParser:
         help="show N rows of other tables, else %(default)s",
     )
     parser.add_argument(
-        "--journal", metavar="FILE", action="append", default=[],
+        "--journal", metavar="[SUITE=]FILE", action="append", default=[],
         help="the journal of the office, for days and times, or - for standard input; may be given several times, for "
-        "one that was moved away and the one after it",
+        "one that was moved away and the one after it; of several offices each after its suite",
     )
     parser.add_argument(
         "--due", metavar="MINUTES", type=least(1, "number above 0"), default=15,
@@ -158,6 +179,21 @@ def parser_of_words() -> argparse.ArgumentParser:
     return parser
 
 
+def with_suites(words: argparse.Namespace) -> str:
+    """Gives each journal the suite of its office, empty if there is but one office. Says why the words of several do
+    not fit together, if so."""
+    suites = [suite for suite, _ in words.url]
+    if len(suites) < 2:
+        words.url = [("", url) for _, url in words.url]
+        words.journal = [("", name.removeprefix(f"{suites[0]}=") if any(suites) else name) for name in words.journal]
+        return ""
+    if "" in suites or len(set(suites)) < len(suites):
+        return "of several --url each has to have its own suite, as in --url sid=http://127.0.0.1:8080"
+    words.journal = [tuple(name.partition("=")[::2]) for name in words.journal]
+    others = [suite for suite, _ in words.journal if suite not in suites]
+    return f"--journal {others[0]}: it has to begin with the suite of its office, as {suites[0]}=FILE" if others else ""
+
+
 def read_words() -> argparse.Namespace:
     """The words of a call, which fit together."""
     parser = parser_of_words()
@@ -166,8 +202,10 @@ def read_words() -> argparse.Namespace:
         parser.error("give --arch")
     if words.url and words.answers:
         parser.error("give --url or files of answers")
+    if why := with_suites(words):
+        parser.error(why)
     answers = [] if words.url or words.queries else words.answers or ["-"]
-    if [*answers, *words.journal].count("-") > 1:
+    if [*answers, *(name for _, name in words.journal)].count("-") > 1:
         parser.error("standard input is read only once: name a file for the answers or for the journal")
     try:
         words.now = least(0, "number of seconds")(
