@@ -235,12 +235,13 @@ def says_in_red_that_it_is_old(folder):
     now = int(time.time())
     for scheme, red in ((LIGHT, "rgb(179, 38, 30)"), (DARK, "rgb(255, 138, 128)")):
         [met] = in_browser(folder, page(folder, said, now=now - 300), [390], LOOK % UNBROKEN, scheme)
-        expect(met["age"] in ("It is 5 min old.", "It is 6 min old.") and met["late"] == met["quiet"] != red, f"{met}")
+        wanted = ("It is 5\u00a0min old.", "It is 6\u00a0min old.")
+        expect(met["age"] in wanted and met["late"] == met["quiet"] != red, f"{met}")
         [met] = in_browser(folder, page(folder, said, now=now - 7200), [390], LOOK % UNBROKEN, scheme)
-        wanted = "It is 2 h old, and should be no older than 15 min."
+        wanted = "It is 2\u00a0h old, and should be no older than 15\u00a0min."
         expect(met["age"] == wanted and met["late"] == red, f"{met}")
     [met] = in_browser(folder, page(folder, said, "--due", "180", now=now - 7200), [390], LOOK % UNBROKEN, LIGHT)
-    expect(met["age"] == "It is 2 h old." and met["late"] == met["quiet"], f"{met}")
+    expect(met["age"] == "It is 2\u00a0h old." and met["late"] == met["quiet"], f"{met}")
     page(folder, said, "--due", "0", status=2, message="usage:")
 
 

@@ -8,11 +8,11 @@ AGE = """
 const made = document.getElementById("made"), age = document.getElementById("age");
 function tell() {
   const minutes = Math.floor((Date.now() - Date.parse(made.dateTime)) / 60000), due = Number(made.dataset.due);
-  const amount = minutes < 120 ? `${minutes} min` : minutes < 2880 ? `${Math.floor(minutes / 60)} h`
-    : `${Math.floor(minutes / 1440)} d`;
+  const amount = minutes < 120 ? `${minutes}\u00a0min` : minutes < 2880 ? `${Math.floor(minutes / 60)}\u00a0h`
+    : `${Math.floor(minutes / 1440)}\u00a0d`;
   const late = minutes > due;
   age.className = late ? "late" : "";
-  age.textContent = late ? `It is ${amount} old, and should be no older than ${due} min.` : `It is ${amount} old.`;
+  age.textContent = late ? `It is ${amount} old, and should be no older than ${due}\u00a0min.` : `It is ${amount} old.`;
 }
 tell();
 setInterval(tell, 30000);
@@ -86,7 +86,7 @@ i { display: inline-block; width: .8rem; height: .8rem; margin-right: .5rem; bor
   td.installed::before { content: "installed "; }
   .take::before, .since::before, .builder::before, .overview td::before { color: var(--quiet); font-size: .85rem; }
 }
-@media (min-width: 40rem) { .package { min-width: 13rem; } .text { width: 70%; min-width: 16rem; } }
+@media (min-width: 40rem) { .package { min-width: 13rem; } .rows .text { width: 60%; min-width: 16rem; } }
 @media (min-width: 56rem) { .columns { display: grid; grid-template-columns: 17rem minmax(0, 1fr); gap: 0 2rem; } }
 @media print { .bar span, i { print-color-adjust: exact; -webkit-print-color-adjust: exact; } .up { display: none; } }
 """
