@@ -16,7 +16,7 @@ import subprocess
 import sys
 from pathlib import Path
 
-from harness import BIN, ROOT, expect, main
+from harness import BIN, ROOT, LeftOut, expect, main
 from list_cases import (
     APT_CONFIG, APT_GET, ASKED, BEN_MESSAGES, BEN_PACKAGES, BEN_SOURCES, DEEP, DOSE, ENTRIES, GOOD, KEYS, LEVELS,
     MALFORMED, PACKAGE, REBUILDS, REPORT, answer, broken, source,
@@ -98,38 +98,41 @@ def reads_control_data(folder):
     return f"{len(paths)} lists"
 
 
+# The words of `Architecture` that match an architecture, as dpkg's manual has it; WORDS are those, and some that match
+# others or none, without those that are no words of dpkg.
+MATCHING = {
+    "amd64": (
+        "amd64 any linux-any any-amd64 any-any linux-amd64 any-linux-amd64 gnu-any-any gnu-linux-amd64 "
+        "base-gnu-linux-amd64 any-any-any-any"
+    ),
+    "armhf": (
+        "armhf any linux-any any-arm any-any any-linux-arm gnu-any-any eabihf-gnu-linux-arm eabihf-any-any-any "
+        "any-any-any-any linux-armhf"
+    ),
+    "hurd-i386": "hurd-i386 any hurd-any any-i386 any-any gnu-any-any any-any-any-any any-hurd-i386",
+}
+OTHERS = {"all", "linux", "musl-any-any", "kfreebsd-any", "x32", "any-any-any-any-any", "source"}
+NO_WORDS = {"gnu-linux-amd64", "base-gnu-linux-amd64", "eabihf-gnu-linux-arm"}
+WORDS = sorted((set(" ".join(MATCHING.values()).split()) | OTHERS) - NO_WORDS)
+
+
 def matches_architectures(folder):
-    """As dpkg's manual has it, and as dpkg-architecture says if it is there."""
     known = archive_lists.read_architectures(tables(folder))
-    wanted = {
-        "amd64": (
-            "amd64 any linux-any any-amd64 any-any linux-amd64 any-linux-amd64 gnu-any-any gnu-linux-amd64 "
-            "base-gnu-linux-amd64 any-any-any-any"
-        ),
-        "armhf": (
-            "armhf any linux-any any-arm any-any any-linux-arm gnu-any-any eabihf-gnu-linux-arm eabihf-any-any-any "
-            "any-any-any-any linux-armhf"
-        ),
-        "hurd-i386": "hurd-i386 any hurd-any any-i386 any-any gnu-any-any any-any-any-any any-hurd-i386",
-    }
-    words = sorted(
-        set(" ".join(wanted.values()).split())
-        | {"all", "linux", "musl-any-any", "kfreebsd-any", "x32", "any-any-any-any-any", "source"}
-    )
-    words.remove("gnu-linux-amd64"), words.remove("base-gnu-linux-amd64"), words.remove(
-        "eabihf-gnu-linux-arm"
-    )  # no words of dpkg
-    for arch, matching in wanted.items():
-        for word in words:
+    for arch, matching in MATCHING.items():
+        for word in WORDS:
             expect(known.matches(arch, word) == (word in matching.split()), f"{word} and {arch}")
+    return f"{len(WORDS)} words"
+
+
+def matches_architectures_as_dpkg_does():
     if not shutil.which("dpkg-architecture") or not archive_lists.TABLES.is_dir():
-        return "dpkg-architecture is not there"
+        raise LeftOut("dpkg-architecture, of dpkg-dev, or the tables of dpkg are not installed")
     real = archive_lists.read_architectures(archive_lists.TABLES)
     for arch in ("amd64", "armhf", "x32", "kfreebsd-amd64"):
-        for word in words:
+        for word in WORDS:
             done = subprocess.run(["dpkg-architecture", "-a", arch, "-i", word], capture_output=True, check=False)
             expect(real.matches(arch, word) == (done.returncode == 0), f"{word} and {arch}, as dpkg-architecture says")
-    return f"{len(words)} words"
+
 
 
 # ---- prepare-lists
@@ -660,7 +663,7 @@ TESTS = [
     helps_and_refuses_words,
     reads_versions,
     reads_control_data,
-    matches_architectures,
+    matches_architectures, matches_architectures_as_dpkg_does,
     prepares_priorities_and_sections,
     keeps_all_else,
     prepares_words,

@@ -7,8 +7,7 @@ words of the program, each over a file of its own.
     tools/tests/test_merge_reads.py [NAME..]     these tests, or all
 
 From the environment: WB is the program, ./wb of this repository where it is not set. All that is wanted was written by
-hand from docs/PROTOCOL.md, none by the program. A read that fails in the middle of a list needs strace; without it that
-test says so and passes.
+hand from docs/PROTOCOL.md, none by the program. A read that fails in the middle of a list needs strace.
 """
 import contextlib
 import fcntl
@@ -26,7 +25,7 @@ import termios
 import threading
 import time
 
-from harness import ROOT, WAIT, WB, answers_of, expect, main, run
+from harness import ROOT, WAIT, WB, LeftOut, answers_of, expect, main, run
 from store_runs import rows_of
 
 FILE_FAULT = '{"fault":"file"}'
@@ -379,7 +378,7 @@ def takes_back_what_was_read_before_a_read_failed(folder):
     """The paragraph is the one that was being read; what was kept of those before it is taken back, and the other part
     is merged."""
     if not shutil.which("strace"):
-        return "strace is not there"
+        raise LeftOut("strace is not installed, by which a read fails")
     offices = Offices(folder, [*BEGIN, "merge ../sources amd64=../packages arm64=../others"])
     before = offices.names("amd64")
     office, path = folder / "words", folder / "long"
@@ -387,7 +386,7 @@ def takes_back_what_was_read_before_a_read_failed(folder):
     for at in (1, 2, 5):
         answer = traced(office, path, at)
         if not answer:
-            return "strace does not work here"
+            raise LeftOut("strace does not work here")
         failed, good = answer["parts"]
         expect((failed["fault"], failed["which"]) == ("Read", "Packages"), f"read {at}: {answer}")
         expect((failed["paragraph"] == 1) == (at == 1) and failed["paragraph"] <= 2000, f"read {at}: {answer}")

@@ -673,7 +673,7 @@ def runs_as(owner, words):
 
 def works_as_the_owner_of_its_files(folder):
     if os.geteuid() != 0:
-        return "root does not call: not tried"
+        raise LeftOut("root does not call")
     owner = pwd.getpwnam("nobody")
     with contextlib.ExitStack() as undone:
         undone.callback(os.chmod, folder, stat.S_IMODE(folder.stat().st_mode))
@@ -684,7 +684,7 @@ def works_as_the_owner_of_its_files(folder):
             None,
         )
         if python is None or not runs_as(owner, [office.program, "--version"]):
-            return "nobody can run no python, or not the program: not tried"
+            raise LeftOut("nobody can run no python, or not the program")
         office.command = [python, OFFICE]
         for path in (office.folder, office.backups):
             os.chown(path, owner.pw_uid, owner.pw_gid)

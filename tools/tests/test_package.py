@@ -21,7 +21,7 @@ import sys
 import tarfile
 from pathlib import Path
 
-from harness import BIN, ROOT, call, expect, main, program
+from harness import BIN, ROOT, LeftOut, call, expect, main, program
 from manual_page import NAMES
 from package_runs import Trial
 from wb_tools.commands import office
@@ -174,7 +174,7 @@ def page_of_wanna_build_has_each_word(_folder):
 
 def pages_are_formatted(_folder):
     if not shutil.which("man"):
-        return "man is not installed: the pages were not formatted"
+        raise LeftOut("man is not installed, and formatted no page")
     environment = {**os.environ, "MANWIDTH": "80", "MAN_KEEP_STDERR": "1", "LC_ALL": "C.UTF-8"}
     for name in PAGES:
         said, warned = call(["man", "--warnings", "-l", str(ROOT / "docs" / name)], env=environment)
@@ -523,7 +523,7 @@ def of_another_version_is_not_made(folder):
 
 def unit_can_be_verified(folder):
     if not shutil.which("systemd-analyze"):
-        return "systemd-analyze is not installed: the unit was not verified"
+        raise LeftOut("systemd-analyze is not installed, and verified no unit")
     root = folder / "root"
     call(["dpkg-deb", "-x", make_deb(folder)[0], root])
     unit = folder / "wb.service"
@@ -556,7 +556,7 @@ def unit_reads_the_settings_of_the_office(folder):
 
 def release_has_its_sums(folder):
     if not (ROOT / ".git").exists():
-        return "this is no git repository: a release was not tried"
+        raise LeftOut("this is no git repository, of which a release is made")
     said, _ = call(
         [ROOT / "tools/dev/make-release", "--trial", "--into", folder / "out"], env={**os.environ, "WB": str(program())}
     )

@@ -13,7 +13,7 @@ import subprocess
 import sys
 import urllib.request
 
-from harness import BIN, ROOT, call, expect, free_port, main, program
+from harness import BIN, ROOT, LeftOut, call, expect, free_port, main, program
 from wb_tools.office.settings import read_settings
 
 SUITES = ("sid", "experimental")
@@ -115,7 +115,7 @@ def have_settings_and_units_in_the_package(folder):
 
 def have_units_that_can_be_verified(folder):
     if not shutil.which("systemd-analyze"):
-        return "systemd-analyze is not installed: the units were not verified"
+        raise LeftOut("systemd-analyze is not installed, and verified no unit")
     made, _ = call([ROOT / "tools/dev/make-deb", "--program", program(), "--into", folder])
     root = folder / "root"
     call(["dpkg-deb", "-x", made.strip(), root])
@@ -131,11 +131,11 @@ def have_units_that_can_be_verified(folder):
 
 
 def rotate_journals_and_messages(folder):
-    """logrotate, where it is installed, takes the shipped file; without a stop the program begins a new journal, and
-    the messages go on in their file."""
+    """logrotate takes the shipped file; without a stop the program begins a new journal, and the messages go on in
+    their file."""
     rotate = shutil.which("logrotate", path=f"{os.environ['PATH']}:/usr/sbin")
     if rotate is None:
-        return "logrotate is not installed: its file was not tried"
+        raise LeftOut("logrotate is not installed")
     with Machine(folder) as machine:
         place = folder / "lib/sid"
         with open(machine.settings / "sid.conf", "a", encoding="utf-8") as settings:
