@@ -12,6 +12,7 @@ were not computed by the program. A killed program leaves all that it wrote: wha
 import json
 import os
 import random
+import re
 import shutil
 import subprocess
 import sys
@@ -20,7 +21,7 @@ import time
 from pathlib import Path
 
 from harness import DEV, ROOT, SEED, Failure, answers_of, expect, limit_files, main, run
-from store_runs import TWO_ARCHS, Session, copied_database, filled, refusal_of
+from store_runs import TWO_ARCHS, Session, copied_database, filled, refusal_of, rows_of
 
 KILLS = int(os.environ.get("KILLS", "200"))
 
@@ -334,10 +335,23 @@ def sqlite3_reads_it(folder):
     expect(met == ([(1, 2, 4, 107)], count + 50), f"after a kill: {met}")
 
 
+def answers_the_questions_of_its_page(folder):
+    """Each question of docs/SCHEMA.md finds something in the office of examples/status, and what the page shows."""
+    for path in (ROOT / "examples/status").iterdir():
+        shutil.copy(path, folder)
+    answers_of(folder, (folder / "lines").read_text().splitlines())
+    page = (ROOT / "docs/SCHEMA.md").read_text().partition("## Five questions")[2]
+    asked = re.findall("```sql\n(.*?)```(?:\n\n```text\n(.*?)```)?", page, re.S)
+    for question, shown in asked:
+        found = "".join("|".join(map(str, row)) + "\n" for row in rows_of(folder, question))
+        expect(found and shown in ("", found), f"{question} finds {found}")
+    expect(len(asked) == 5 and any(shown for _, shown in asked), f"{len(asked)} questions")
+
+
 TESTS = [
     keeps_records, answers_as_stated, answers_large_examples, answers_as_one_run_over_many, second_program_is_refused,
 ]
 TESTS += [merge_over_a_store]
-TESTS += [sqlite3_reads_it, whole_after_failed_writes, whole_after_kill]
+TESTS += [sqlite3_reads_it, answers_the_questions_of_its_page, whole_after_failed_writes, whole_after_kill]
 if __name__ == "__main__":
     sys.exit(main(TESTS))
