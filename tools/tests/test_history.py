@@ -19,7 +19,7 @@ import sys
 import threading
 import time
 
-from harness import BIN, WB, expect, main
+from harness import BIN, WB, expect, free_port, main
 from look_runs import in_terminal
 
 WAIT = 30
@@ -480,7 +480,7 @@ def is_quick(folder):
 class StandIn(http.server.ThreadingHTTPServer):
     """What stands for a serving office: it answers which records are in a state, and nothing else."""
 
-    def __init__(self, records):
+    def __init__(self, records, port=0):
         class Handler(http.server.BaseHTTPRequestHandler):
             def do_GET(self):
                 found = re.fullmatch("/v1/state/([a-z0-9]+)/([A-Za-z-]+)", self.path)
@@ -496,7 +496,7 @@ class StandIn(http.server.ThreadingHTTPServer):
             def log_message(self, *_):
                 pass
 
-        super().__init__(("127.0.0.1", 0), Handler)
+        super().__init__(("127.0.0.1", port), Handler)
         self.url = f"http://127.0.0.1:{self.server_port}"
         threading.Thread(target=self.serve_forever, args=(0.01,), daemon=True).start()
 
@@ -560,6 +560,18 @@ def asks_a_serving_office(folder):
         folder, "-", "ages", "--wait", "0", "--url", office.url, said=example().data(), status=3,
         message="it does not answer: Connection refused",
     )
+
+
+def waits_for_an_office_that_starts(folder):
+    records, port, offices = [record("zlib", "Building", arch="arm64", holder="a1", take=7)], free_port(), []
+    starting = threading.Timer(1.5, lambda: offices.append(StandIn(records, port)))
+    starting.start()
+    try:
+        met = call(folder, "-", "ages", "--url", f"http://127.0.0.1:{port}", said=example().data())
+    finally:
+        starting.join()
+        offices[0].__exit__()
+    expect("arm64  zlib    1.0      a1          7  2026-04-12 19:30:00  30 min  0 s" in met, f"{met}")
 
 
 def stands_on_the_page(folder):
@@ -647,7 +659,7 @@ TESTS = [
 ]
 TESTS += [
     goes_on_after_a_cut_line, reports_malformed_lines, takes_the_words_that_it_says, is_quick, asks_a_serving_office,
-    stands_on_the_page,
+    waits_for_an_office_that_starts, stands_on_the_page,
 ]
 TESTS += [reads_what_the_program_writes]
 
