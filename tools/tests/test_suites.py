@@ -108,6 +108,7 @@ def have_settings_and_units_in_the_package(folder):
         service, timer = ((units / f"wb-{name}@.{kind}").read_text() for kind in ("service", "timer"))
         used = re.findall(r"\$\{?([A-Z]+)", service)
         expect(all(hasattr(settings, key.lower()) for key in used), f"wb-{name} uses {used}")
+        expect("${PORT}" not in service or "\nEnvironment=PORT=8080\n" in service, f"wb-{name} without PORT: {service}")
         expect("WantedBy=timers.target" in timer and f"wb-{name}@office.timer" in timer, f"the timer is {timer}")
         for program_file in re.findall("^ExecStart=(/[^ ]+)", service, re.M):
             expect((folder / "root" / program_file[1:]).exists(), f"wb-{name} calls {program_file}")
