@@ -59,11 +59,13 @@ class Machine:
 
 
 def serve_side_by_side(folder):
-    """Each with files, a port and backups of its own; wanna-build finds also the one that its settings do not name."""
+    """Each with files, a port and backups of its own; wanna-build finds also the one that its settings do not name, and
+    one page shows both."""
     with Machine(folder) as machine:
         for suite in SUITES:
             machine.office(suite, "create")
             lines = f"add-arch amd64 linux amd64\nadd-builder b1 amd64\nenter amd64 of-{suite} 1.0 optional devel\n"
+            lines += "add-arch arm64 linux arm64\n" if suite == "sid" else ""
             machine.office(suite, "run", lines=lines)
             machine.office(suite, "start")
         for suite, other in (SUITES, SUITES[::-1]):
@@ -71,6 +73,11 @@ def serve_side_by_side(folder):
             expect(f"port {machine.ports[suite]}: answers" in status, f"{suite} is not served: {status}")
             said, _ = machine.listed(suite)
             expect(f"of-{suite}" in said and f"of-{other}" not in said, f"wanna-build -d {suite} says {said}")
+        urls = (word for suite in SUITES for word in ("--url", f"{suite}=http://127.0.0.1:{machine.ports[suite]}"))
+        page, _ = call([BIN / "wb-status", *urls, "--arch", "amd64", "--arch", "arm64"])
+        heads = re.findall("<h2 [^>]*>(.*?)</h2>", page)
+        expect(heads == ["sid amd64", "sid arm64", "experimental amd64"], f"the page has {heads}")
+        expect(all(page.count(f"<b>of-{suite}</b>") == 1 for suite in SUITES), "the page lacks a package")
         machine.office("experimental", "backup", "--stop")
         expect(not list((folder / "lib/sid/backups").iterdir()), "the backup is not of its suite")
         machine.office("experimental", "stop")
