@@ -541,13 +541,19 @@ def forgets_what_is_owed(folder):
         net.expect_state("zlib", "Building b1 3")
 
 
-def waits_for_a_stopped_office_with_info(folder):
-    """buildd-mail would send the answer of a porter back."""
+def waits_for_a_stopped_office(folder):
+    """buildd-mail would send the answer of a porter back, and dupload would mail that the upload failed."""
     with Network(folder, TRY="20") as net:
-        net.office.stop()
-        threading.Timer(0.7, net.office.start).start()
-        said, _ = net.call("--info", "hello")
-        expect("State               : Needs-Build" in said, f"it says {said}")
+        net.takes("hello_1.0-1")
+        net.call("--built", "--dist=sid", "hello_1.0-1")
+        for words, text, wanted in (
+            (("--info", "hello"), "", "  State               : Built\n"),
+            (("--may-upload", "-"), CHANGES.format("amd64"), ""),
+        ):
+            net.office.stop()
+            threading.Timer(0.7, net.office.start).start()
+            said, _ = net.call(*words, text=text)
+            expect(wanted in said, f"{words}: it says {said}")
 
 
 TESTS = [
@@ -556,7 +562,7 @@ TESTS = [
     leaves_a_builder_its_words,
     reads_changes_of_anybody, keeps_its_files_to_itself, leaves_what_root_makes_to_the_owner,
     needs_no_file_for_a_porter, refuses_what_no_office_accepts, forgets_what_is_owed,
-    waits_for_a_stopped_office_with_info,
+    waits_for_a_stopped_office,
 ]  # fmt: skip
 
 if __name__ == "__main__":

@@ -78,7 +78,8 @@ settings, lines of KEY=VALUE with a value with a blank in quotes, in {FILE} or F
   ALL      the office's architecture for builds of `all`, which buildd names `all`    indep
   STATE    the file of what is held and owed, of its caller alone; its folder is made ~/wanna-build.state
   LOG      the file of reports that were owed, or refused later                       ~/wanna-build.log
-  TRY      seconds that a report, or --info, is tried before it is kept, or fails     300
+  TRY      seconds that a report is tried before it is kept, and that --info and
+           --may-upload are tried before they fail                                    300
   ANSWER   seconds that an answer may take                                            40
   RETAKE   yes or no: whether a list of Needs-Build begins with what its builder
            is building already, as after buildd was killed                            yes
@@ -453,18 +454,24 @@ def forget(call: Call, settings: Settings, reports: Reports) -> int:
 
 
 def may_upload(call: Call, settings: Settings, reports: Reports) -> int:
-    """Whether the office shows what a .changes file names as built under the take number under which it was
-    reported."""
+    """Whether the office shows what a .changes file names as built under the take number under which it was reported.
+    An office that is stopped is waited for: dupload would mail that the upload failed."""
     if len(call.words) != 1:
         raise Fault(f"{call.word} wants one .changes file", WRONG_WORDS)
     changes, builder = read_changes(call.words[0]), call.said.get("user") or caller()
     suite, arch = suite_of(call, settings, changes), arch_of(call, settings, changes)
-    reports.state.read()
-    if reports.owed(suite):
-        with reports.state.locked(settings.try_for + 2 * settings.answer):
-            reports.send_owed(suite)
+
+    def once() -> list[Record]:
+        reports.state.read()
+        if reports.owed(suite):
+            with reports.state.locked(settings.try_for + 2 * settings.answer):
+                reports.send_owed(suite)
+        held: list[Record] = told(reports.office(suite).mine(builder))
+        return held
+
+    records = tried(settings.try_for, once)
     take = reports.kept.find(suite, arch, builder, changes.source)
-    for record in told(reports.office(suite).mine(builder)):
+    for record in records:
         if (
             (record["arch"], record["source"]) == (arch, changes.source)
             and is_of(record, changes.version)
