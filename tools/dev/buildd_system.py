@@ -267,8 +267,10 @@ class System:
 
     def install(self, program):
         """Debian's packages by apt, and the Debian package of this repository by dpkg."""
-        no_index = "man-db man-db/auto-update boolean false"  # of pages of the manual, which takes a minute
+        # no index of the pages of the manual, which takes minutes: a man-db that is there already looks at the file
+        no_index = "man-db man-db/auto-update boolean false"
         run(self.inside(["sh", "-c", f"echo {no_index} | debconf-set-selections"]))
+        (self.root / "var/lib/man-db/auto-update").unlink(missing_ok=True)
         self.apt("update")
         self.apt("install", "--no-install-recommends", *PACKAGES)
         said = run(self.inside(["dpkg-query", "-W", "-f", "${Package} ${Version}, ", *PACKAGES]))
