@@ -168,6 +168,11 @@ def accepting_command():
     return phrase_of_page(r"# su - buildd -c '(ssh b1@\S+ true)'")
 
 
+def ending_command():
+    """What the page says that the user buildd calls, to let buildd end once its build has."""
+    return phrase_of_page(r"the user buildd\s+says `(touch [^`]+)`")
+
+
 # ---- programs
 
 

@@ -14,7 +14,9 @@ import sys
 from pathlib import Path
 
 from harness import DEV, ROOT, expect, expect_none, main
-from buildd_system import accepting_command, archive_settings, buildd_settings, line_of_key, tunnel_command
+from buildd_system import (
+    accepting_command, archive_settings, buildd_settings, ending_command, line_of_key, tunnel_command,
+)
 
 
 def text_of(name):
@@ -323,6 +325,7 @@ def page_of_buildd_has_what_is_tried():
     command = tunnel_command(9998, 9999)
     expect(command.startswith("/usr/bin/ssh -N ") and "127.0.0.1:9998:127.0.0.1:9999" in command, f"it is {command}")
     expect(accepting_command().endswith(" true"), f"docs/BUILDD.md has {accepting_command()}")
+    expect(ending_command() == "touch ~/EXIT-DAEMON-PLEASE", f"docs/BUILDD.md has {ending_command()}")
 
 
 # ---- deviations and faults
