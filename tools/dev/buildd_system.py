@@ -375,6 +375,11 @@ class Sshd:
             end(self.process, *children_of(self.process.pid))
             self.process = None
 
+    def refuse(self):
+        """No link can be made any more; those that there are stay."""
+        end(self.process)
+        self.process = None
+
     def hang(self):
         """The links that there are hang: what is sent by them is not answered any more."""
         for number in children_of(self.process.pid):
