@@ -17,7 +17,12 @@ use Rattle.deb_relations.specs.Printing.{term_text}
 use Rattle.deb_text.specs.Lists.{is_nonempty}
 use Rattle.deb_relations.specs.Grammar.{is_white, is_blank_text, is_profile_char, is_op_char, is_qualifier, is_word, is_not_blank, op_of, words, TakesName, TakesQualifier, InBrackets, IsRestriction, TakesRestriction, ReadsTerms, TakesArchs, ReadsProfiles, ReadsAlternative, ReadsGroup, Reads}
 use Rattle.deb_relations.specs.Names.{is_lower_or_digit, is_package_char, is_arch_char, begins_with_lower_or_digit, is_package_name, is_arch_word}
-use Rattle.deb_relations.specs.Reader.{skip, strip, is_solid, between, between_opened, read_between, with_rest, read_name, read_behind_colon, read_qualifier, asked_of, asked_behind, asked_from, restriction_of, asked_inside, read_restriction, term_behind, term_of, filled_only, terms_of, alike_only, arch_terms_of, read_archs, profile_behind, profile_of, lists_of, read_profiles, with_profiles, with_archs, with_asked, with_qualifier, with_name, read_alternative, read_group, read_groups}
+use Rattle.deb_relations.specs.Reader.{skip, strip, is_solid, between, between_opened, read_between, with_rest}
+use Rattle.deb_relations.specs.Reader.{read_name, read_behind_colon, read_qualifier, asked_of, asked_behind, asked_from}
+use Rattle.deb_relations.specs.Reader.{restriction_of, asked_inside, read_restriction, term_behind, term_of}
+use Rattle.deb_relations.specs.Reader.{filled_only, terms_of, alike_only, arch_terms_of, read_archs, profile_behind}
+use Rattle.deb_relations.specs.Reader.{profile_of, lists_of, read_profiles, with_profiles, with_archs, with_asked}
+use Rattle.deb_relations.specs.Reader.{with_qualifier, with_name, read_alternative, read_group, read_groups}
 use Rattle.deb_text.specs.Options.{both, all_some}
 use Rattle.deb_relations.proofs.FrontLemmas.{stops, opens, take_while-all, skip-all, opens-stops, opens-weaker, all-weaker, all-both, skip-cons}
 use Rattle.deb_relations.proofs.CutLemmas.{strip-here, cut-here, split-here, split-none}

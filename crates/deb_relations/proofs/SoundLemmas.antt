@@ -16,7 +16,12 @@ use Rattle.deb_relations.specs.Printing.{term_text}
 use Rattle.deb_text.specs.Lists.{is_nonempty}
 use Rattle.deb_relations.specs.Grammar.{is_white, is_blank_text, is_op_char, is_qualifier, is_word, is_not_blank, op_of, words, are_alike, TakesName, TakesQualifier, InBrackets, IsRestriction, TakesRestriction, ReadsTerms, TakesArchs, ReadsProfiles, ReadsAlternative, ReadsGroup, Reads, relations_limit}
 use Rattle.deb_relations.specs.Names.{is_package_char, is_arch_char, is_package_name}
-use Rattle.deb_relations.specs.Reader.{skip, strip, cut, is_solid, between, between_opened, read_between, with_rest, read_name, read_behind_colon, read_qualifier, asked_of, restriction_of, asked_inside, read_restriction, term_behind, term_of, filled_only, terms_of, alike_only, arch_terms_of, read_archs, profile_behind, profile_of, lists_of, read_profiles, with_profiles, with_archs, with_asked, with_qualifier, with_name, read_alternative, read_group, read_groups}
+use Rattle.deb_relations.specs.Reader.{skip, strip, cut, is_solid, between, between_opened, read_between, with_rest}
+use Rattle.deb_relations.specs.Reader.{read_name, read_behind_colon, read_qualifier, asked_of, restriction_of}
+use Rattle.deb_relations.specs.Reader.{asked_inside, read_restriction, term_behind, term_of, filled_only, terms_of}
+use Rattle.deb_relations.specs.Reader.{alike_only, arch_terms_of, read_archs, profile_behind, profile_of, lists_of}
+use Rattle.deb_relations.specs.Reader.{read_profiles, with_profiles, with_archs, with_asked, with_qualifier, with_name}
+use Rattle.deb_relations.specs.Reader.{read_alternative, read_group, read_groups}
 use Rattle.deb_text.specs.Options.{both, all_some}
 use Rattle.deb_relations.proofs.FrontLemmas.{take_while-skip}
 use Rattle.deb_text.proofs.ListLemmas.{take_while-passes}

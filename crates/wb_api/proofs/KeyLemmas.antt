@@ -3,7 +3,9 @@ use Rattle.std.proofs.Common.{◌≡◌, ◌∙◌, refl, sym, ap, Bool, true, f
 use Rattle.std.specs.Prelude.{codes, is_some, option_and_then}
 use Rattle.std.proofs.Math.Bool.{and-true}
 use Rattle.serde_json.specs.Data.{Data}
-use Rattle.wb_api.specs.Commands.{Named, command_in, attempted_in, build_priority_in, dep_wait_in, fail_in, give_back_in, integer_in, next_in, not_for_us_in, number_in, number_or_none_in, rebuild_in, report_in, named_source_in, take_in, text_in, waits_in}
+use Rattle.wb_api.specs.Commands.{Named, command_in, attempted_in, build_priority_in, dep_wait_in, fail_in}
+use Rattle.wb_api.specs.Commands.{give_back_in, integer_in, next_in, not_for_us_in, number_in, number_or_none_in}
+use Rattle.wb_api.specs.Commands.{rebuild_in, report_in, named_source_in, take_in, text_in, waits_in}
 use Rattle.wb_api.specs.Keys.{has_keys, keys_of}
 use Rattle.wb_api.specs.declared.route.CommandKind.{CommandKind}
 use Rattle.wb_api.specs.declared.route.CommandKind.TheVariants.{Next, Take, Built, Uploaded, Waits, PutBack, Attempted, GiveBack, DepWait, Fail, NotForUs, Rebuild, BuildPriority, Report}

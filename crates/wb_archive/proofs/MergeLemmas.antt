@@ -28,7 +28,8 @@ use Rattle.wb_step.specs.Parts.{end_with, listing_for, part_listing, part_replie
 use Rattle.wb_archive.specs.declared.fault.BadList.{BadList}
 use Rattle.wb_archive.specs.declared.merge.PartList.{PartList}
 use Rattle.wb_archive.specs.Faults.{refusal_of}
-use Rattle.wb_archive.specs.Merges.{ArePartsDone, BreaksFor, IsGiven, IsGivenBy, IsMergeOfParts, IsPartMerged, IsPartOf, IsPartUnread, IsSourcesRead, IsUnread, MayBeginAt, arch_of, archs_of_parts}
+use Rattle.wb_archive.specs.Merges.{ArePartsDone, BreaksFor, IsGiven, IsGivenBy, IsMergeOfParts, IsPartMerged, IsPartOf}
+use Rattle.wb_archive.specs.Merges.{IsPartUnread, IsSourcesRead, IsUnread, MayBeginAt, arch_of, archs_of_parts}
 use Rattle.wb_archive.specs.Parts.{IsListing, IsPartDone, binaries_at, listing_from}
 use Rattle.wb_archive.specs.Fills.{IsFilled, WithRows, sources_wanted}
 use Rattle.wb_archive.specs.Reads.{IsBrokenOff, IsRefused, sources_at}

@@ -3,7 +3,9 @@ use Rattle.std.proofs.Common.{◌≡◌, ℕ, Bool, true, false, if◌then◌els
 use Rattle.std.specs.List.{list_any}
 use Rattle.deb_relations.specs.Grammar.{is_not_blank, is_white, is_profile_char, is_op_char, is_qualifier, is_word, op_of, words}
 use Rattle.deb_relations.specs.Names.{is_lower_or_digit, is_package_char, is_arch_char, is_arch_word, is_package_name}
-use Rattle.deb_relations.specs.Reader.{is_solid, between, read_name, read_qualifier, restriction_of, read_restriction, term_of, terms_of, arch_terms_of, read_archs, profile_of, read_profiles, read_alternative, read_group, read_groups, with_group}
+use Rattle.deb_relations.specs.Reader.{is_solid, between, read_name, read_qualifier, restriction_of, read_restriction}
+use Rattle.deb_relations.specs.Reader.{term_of, terms_of, arch_terms_of, read_archs, profile_of, read_profiles}
+use Rattle.deb_relations.specs.Reader.{read_alternative, read_group, read_groups, with_group}
 use Rattle.deb_relations.specs.Reading.{name_fault, fault_behind_operator, asked_fault, restriction_fault, words_fault, archs_fault, list_fault, profiles_fault, alternative_fault, is_alternative, group_fault, is_group_or_blank, groups_fault, reading_of}
 use Rattle.deb_version.specs.Syntax.{has_epoch, epoch_text, rest_of, has_revision, upstream_text, revision_text, epoch_of, value_of, with_digit, parts_of, is_version_text, fault_of, length_fault, epoch_fault, rest_fault, upstream_fault, upstream_part_fault, is_upstream_char, is_revision_char, revision_fault, revision_part_fault, number_fault}
 use Rattle.deb_version.specs.Operator.{meets}

@@ -7,7 +7,8 @@ use Rattle.wb_states.specs.declared.refusal.Refusal.TheVariants.{BadListing}
 use Rattle.wb_states.specs.declared.refusal.ListKind.{ListKind}
 use Rattle.wb_states.specs.declared.refusal.ListKind.TheVariants.{Sources, Packages}
 use Rattle.wb_states.specs.declared.refusal.ListingFault.{ListingFault}
-use Rattle.wb_merge.specs.Rows.{SourceParagraph, BinaryParagraph, onto_rows, refused_at, rows_behind, source_paragraph, binary_paragraph, source_rows, binary_rows, AreRows, IsFirstFault}
+use Rattle.wb_merge.specs.Rows.{SourceParagraph, BinaryParagraph, onto_rows, refused_at, rows_behind, source_paragraph}
+use Rattle.wb_merge.specs.Rows.{binary_paragraph, source_rows, binary_rows, AreRows, IsFirstFault}
 
 module _ {X : Type 0} (row_of : List (List ℕ) → Result X ListingFault) (which : ListKind) where
   -- ---- rows

@@ -3,7 +3,8 @@ use Rattle.std.proofs.Common.{◌≡◌, ℕ, ◌+◌, ◌≤◌, Bool, true, fa
 use Rattle.std.specs.List.{slice_split, onto_first}
 use Rattle.deb_control.specs.Paragraphs.{ReaderState, begun}
 use Rattle.wb_states.specs.declared.refusal.ListKind.TheVariants.{Sources, Packages}
-use Rattle.wb_merge.specs.Rows.{SourceParagraph, BinaryParagraph, source_paragraph, binary_paragraph, source_rows, binary_rows}
+use Rattle.wb_merge.specs.Rows.{SourceParagraph, BinaryParagraph, source_paragraph, binary_paragraph, source_rows}
+use Rattle.wb_merge.specs.Rows.{binary_rows}
 use Rattle.wb_merge.specs.Offers.{HasPassed, after_rows, rows_at}
 use Rattle.wb_merge.specs.Growth.{ahead_takes_memory, list_takes_memory}
 use Rattle.deb_control.specs.Lines.{is_line_feed, is_separator, is_nonempty, lines_of, paragraphs_in}

@@ -20,7 +20,11 @@ use Rattle.deb_relations.specs.Names.{is_package_name}
 use Rattle.wb_states.specs.Names.{is_label_text}
 use Rattle.deb_text.specs.Text.{is_empty_text}
 use Rattle.wb_states.specs.Refusals.{name_of_field}
-use Rattle.wb_merge.specs.Rows.{SourceParagraph, BinaryParagraph, value_named, text_named, is_label_or_empty, has_source_version, last_digits, rebuild_number, required_fault, optional_fault, form_fault, spare_form_fault, source_fault, source_row, with_source, binary_row, source_row_of, binary_row_of, of_fields, refused_at, onto_rows, rows_behind, source_rows, binary_rows}
+use Rattle.wb_merge.specs.Rows.{SourceParagraph, BinaryParagraph, value_named, text_named, is_label_or_empty}
+use Rattle.wb_merge.specs.Rows.{has_source_version, last_digits, rebuild_number, required_fault, optional_fault}
+use Rattle.wb_merge.specs.Rows.{form_fault, spare_form_fault, source_fault, source_row, with_source, binary_row}
+use Rattle.wb_merge.specs.Rows.{source_row_of, binary_row_of, of_fields, refused_at, onto_rows, rows_behind}
+use Rattle.wb_merge.specs.Rows.{source_rows, binary_rows}
 use Rattle.deb_text.proofs.OptionLemmas.{first_some-None, ok_unless-Ok}
 use Rattle.deb_text.proofs.ListLemmas.{take_while-passes}
 

@@ -21,7 +21,9 @@ use Rattle.wb_states.specs.declared.refusal.ListKind.TheVariants.{Sources, Packa
 use Rattle.wb_states.specs.declared.refusal.ListingFault.{ListingFault}
 use Rattle.wb_states.specs.declared.scratch.SourceRow.{SourceRow as KeptSource}
 use Rattle.wb_states.specs.declared.scratch.BinaryRow.{BinaryRow as KeptBinary}
-use Rattle.wb_merge.specs.Rows.{SourceParagraph, BinaryParagraph, source_fault, source_row, source_row_of, binary_row_of, of_fields, refused_at, onto_rows, rows_behind, source_paragraph, binary_paragraph, source_rows, binary_rows}
+use Rattle.wb_merge.specs.Rows.{SourceParagraph, BinaryParagraph, source_fault, source_row, source_row_of}
+use Rattle.wb_merge.specs.Rows.{binary_row_of, of_fields, refused_at, onto_rows, rows_behind, source_paragraph}
+use Rattle.wb_merge.specs.Rows.{binary_paragraph, source_rows, binary_rows}
 use Rattle.wb_merge.specs.Listing.{ArchiveListing, best_from, better, built_as, built_cmp, built_of, builds, candidates, is_built_from, is_candidate, is_installable_on, is_listed, available_of, listed_as, listed_cmp, listed_of, listing_in, listing_of, listing_of_rows, map_at}
 use Rattle.wb_merge.specs.Scratch.{source_columns, source_row_at, binary_columns, binary_row_at, kept_of, kept_reading, kept_behind, present, kept_sources, kept_binaries, row_of_kept, listed_in, version_row_cmp, is_build_of, build_of, build_cmp, built_in, versions_in, available_in, listing_of_kept, listing_kept}
 use Rattle.wb_merge.proofs.AvailableLemmas.{more-of, none-yet}

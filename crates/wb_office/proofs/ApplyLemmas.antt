@@ -1,5 +1,6 @@
 -- What an office over tables answers after a failure, and how it stands then.
-use Rattle.std.proofs.Common.{◌≡◌, ◌≢◌, ◌⊎◌, inl, inr, true, false, not, Bool, List, Option, Some, None, Result, Ok, Err, IsTrue, IfErr, refl, sym, ap, subst, ◌∙◌}
+use Rattle.std.proofs.Common.{◌≡◌, ◌≢◌, ◌⊎◌, inl, inr, true, false, not, Bool, List, Option, Some, None, Result, Ok}
+use Rattle.std.proofs.Common.{Err, IsTrue, IfErr, refl, sym, ap, subst, ◌∙◌}
 use Rattle.std.proofs.lemmas.Bool.{both_ways}
 use Rattle.sqlite_trees.specs.declared.store.Store.{Ghosts}
 use Rattle.sqlite.specs.Held.{Held, state}
@@ -36,7 +37,8 @@ use Rattle.wb_office.specs.MergeCarried.{MergeEndsFor}
 use Rattle.wb_office.specs.MergeLists.{AreTextsDone}
 use Rattle.wb_office.specs.Failed.{HasFailed, IsOfficeOver}
 use Rattle.wb_office.specs.Standing.{Knows, StandsAt, LeavesOne}
-use Rattle.wb_office.specs.Applies.{refusal_for, refusal_of, CannotBeUsed, CannotGoOn, IsNotTakenBack, IsRefusedIn, MustClose, Applies, Ends, EndsWith}
+use Rattle.wb_office.specs.Applies.{refusal_for, refusal_of, CannotBeUsed, CannotGoOn, IsNotTakenBack, IsRefusedIn}
+use Rattle.wb_office.specs.Applies.{MustClose, Applies, Ends, EndsWith}
 use Rattle.wb_store.proofs.StaysLemmas.{was_clean}
 
 -- two refusals that are answered alike are the same

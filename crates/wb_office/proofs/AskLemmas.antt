@@ -1,5 +1,6 @@
 -- What an office over tables answers to a query, and how it stands then.
-use Rattle.std.proofs.Common.{◌≡◌, ◌≢◌, inl, inr, true, false, not, cond, Bool, ℕ, List, map as each, Option, is_some, Result, Ok, Err, IfOk, IfErr, refl, sym, ap, subst, ◌∙◌}
+use Rattle.std.proofs.Common.{◌≡◌, ◌≢◌, inl, inr, true, false, not, cond, Bool, ℕ, List, map as each, Option, is_some}
+use Rattle.std.proofs.Common.{Result, Ok, Err, IfOk, IfErr, refl, sym, ap, subst, ◌∙◌}
 use Rattle.std.proofs.lemmas.Bool.{both_ways}
 use Rattle.std.specs.FinMap as map
 use Rattle.sqlite_trees.specs.declared.store.Store.{Ghosts}
@@ -7,7 +8,8 @@ use Rattle.sqlite.specs.Held.{Held, state}
 use Rattle.sqlite.specs.State.{HasCleanDisk}
 use Rattle.wb_states.specs.declared.arch.OsCpu.{OsCpu}
 use Rattle.wb_states.specs.declared.refusal.Refusal.{Refusal}
-use Rattle.wb_states.specs.declared.refusal.Refusal.TheVariants.{BadName, Closed, Memory, Store, UnknownArch, UnknownBuilder}
+use Rattle.wb_states.specs.declared.refusal.Refusal.TheVariants.{BadName, Closed, Memory, Store, UnknownArch}
+use Rattle.wb_states.specs.declared.refusal.Refusal.TheVariants.{UnknownBuilder}
 use Rattle.wb_states.specs.declared.store_fault.StoreFault.{StoreFault}
 use Rattle.wb_states.specs.Holds.{held_of}
 use Rattle.wb_states.specs.Machine.{Machine}
@@ -34,7 +36,8 @@ use Rattle.wb_office.specs.Standing.{Knows, StandsAt, LeavesOne}
 use Rattle.wb_office.proofs.AnswerLemmas.{found, not_found, stays_others}
 use Rattle.wb_store.proofs.OthersLemmas.{others_equal}
 use Rattle.wb_store.proofs.StaysLemmas.{was_clean}
-use Rattle.wb_office.proofs.ApplyLemmas.{either_of, none_opens, not_closed_for, of_fault, office_over, open_or_shut, same_err, settled_at, stays_shut}
+use Rattle.wb_office.proofs.ApplyLemmas.{either_of, none_opens, not_closed_for, of_fault, office_over, open_or_shut}
+use Rattle.wb_office.proofs.ApplyLemmas.{same_err, settled_at, stays_shut}
 
 -- ---- what was looked up
 

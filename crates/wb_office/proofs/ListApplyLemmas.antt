@@ -1,5 +1,6 @@
 -- What an office answers to a merge of lists that readers give, and how it stands then.
-use Rattle.std.proofs.Common.{◌≡◌, ◌≢◌, ◌∙◌, refl, sym, ap, subst, inl, inr, ℕ, Bool, true, false, List, [], ◌∷◌, Option, Some, None, Result, Ok, Err, IsTrue, IfOk, IfErr}
+use Rattle.std.proofs.Common.{◌≡◌, ◌≢◌, ◌∙◌, refl, sym, ap, subst, inl, inr, ℕ, Bool, true, false, List, [], ◌∷◌}
+use Rattle.std.proofs.Common.{Option, Some, None, Result, Ok, Err, IsTrue, IfOk, IfErr}
 use Rattle.std.proofs.lemmas.Bool.{both_ways}
 use Rattle.std.proofs.lemmas.Result.{IfOk-weaker}
 use Rattle.std.specs.List.{AllZip}
@@ -25,7 +26,8 @@ use Rattle.wb_step.proofs.InvariantLemmas.{step-keeps}
 use Rattle.wb_archive.specs.declared.merge.PartList.{PartList}
 use Rattle.wb_archive.specs.declared.merge_from.ArchList.{ArchList}
 use Rattle.wb_archive.specs.Feeds.{IsFeedBreak}
-use Rattle.wb_archive.specs.Readers.{IsFeedOf, IsListOf, IsMergeOf, IsPartReadFault, IsReadFault, MayLeave, archs_refusal, has_bad_arch, has_repeated_arch}
+use Rattle.wb_archive.specs.Readers.{IsFeedOf, IsListOf, IsMergeOf, IsPartReadFault, IsReadFault, MayLeave}
+use Rattle.wb_archive.specs.Readers.{archs_refusal, has_bad_arch, has_repeated_arch}
 use Rattle.wb_archive.proofs.ReaderLemmas.{names-refused, texts-more, texts-step}
 use Rattle.wb_store.specs.Settled.{IsBackAt, LeavesEither}
 use Rattle.wb_store.proofs.SettledLemmas.{settled_back}
@@ -40,7 +42,8 @@ use Rattle.wb_office.specs.Failed.{HasFailed}
 use Rattle.wb_office.specs.ListAnswers.{AreListsLeft, ListsLeaveAs, RespondsLists}
 use Rattle.wb_office.specs.MergeLists.{AreListsDone}
 use Rattle.wb_office.specs.Standing.{Knows, LeavesOne, StandsAt}
-use Rattle.wb_office.proofs.ApplyLemmas.{at_err, either_of, if_err, merge_not_taken_back, must_not_go_on, none_opens, not_closed_by, office_over, open_or_shut, same_err, settled_at, stays_shut}
+use Rattle.wb_office.proofs.ApplyLemmas.{at_err, either_of, if_err, merge_not_taken_back, must_not_go_on, none_opens}
+use Rattle.wb_office.proofs.ApplyLemmas.{not_closed_by, office_over, open_or_shut, same_err, settled_at, stays_shut}
 
 -- ---- the state after a merge
 
@@ -306,8 +309,8 @@ module _ {S R : Type 0} {g : Ghosts S} {remaining : R → Option (List ℕ)} {so
   lists_cause opened is closed =
       let why = at_err _ r Memory is (h.cause clean machine stands opened) in
       must_not_go_on g why.1 new is_closed why.0 (λ e failed.
-        let left = subst (AreListsLeft g remaining sources lists machine old why.1) failed why.2 in
-        merge_not_taken_back g (AreListsDone MayStandAt IsFeedBreak (fresh (remaining sources)) left.1.1) left.1.2 machine left.1.0 why.1 e left.1.6) why.5 (why.4 refl closed)
+      let left = subst (AreListsLeft g remaining sources lists machine old why.1) failed why.2 in
+      merge_not_taken_back g (AreListsDone MayStandAt IsFeedBreak (fresh (remaining sources)) left.1.1) left.1.2 machine left.1.0 why.1 e left.1.6) why.5 (why.4 refl closed)
 
   -- the store failed with the fault that is told
   lists_failed : (fault : StoreFault) → r ≡ Err (Store fault) → was_closed ≡ false → HasFailed g machine fault new

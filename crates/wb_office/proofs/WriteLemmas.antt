@@ -22,7 +22,9 @@ use Rattle.wb_store.specs.Writes.{OfficeWrite}
 use Rattle.wb_store.proofs.OthersLemmas.{others_then}
 pub use Rattle.wb_store.specs.MergeLaws.{survives_itself}
 use Rattle.wb_store.proofs.SettledLemmas.{not_changed, stays_or_goes_back}
-use Rattle.wb_office.specs.Changed.{HasFittingCounts, LacksFittingNumbers, found_at, IsStepOf, IsWriteOf, before_counts, ComesToStandFor, FailsAtOnce, Writes, IsLeftOrBack, ChangesBy, IsEntering, IsWriteOfRecord}
+use Rattle.wb_office.specs.Changed.{HasFittingCounts, LacksFittingNumbers, found_at, IsStepOf, IsWriteOf, before_counts}
+use Rattle.wb_office.specs.Changed.{ComesToStandFor, FailsAtOnce, Writes, IsLeftOrBack, ChangesBy, IsEntering}
+use Rattle.wb_office.specs.Changed.{IsWriteOfRecord}
 use Rattle.wb_store.proofs.StaysLemmas.{no_more}
 use Rattle.wb_office.proofs.StepOfLemmas.{same_counts}
 

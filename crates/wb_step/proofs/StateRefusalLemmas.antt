@@ -27,7 +27,8 @@ use Rattle.wb_states.specs.Moves.{may_go, move_refusal, value_refusal, waits_for
 use Rattle.wb_states.specs.Queue.{Entry}
 use Rattle.wb_states.specs.Refusals.{IsOfMachine, is_of_store}
 use Rattle.wb_merge.specs.Listing.{listing_in, listing_of}
-use Rattle.wb_merge.specs.Rows.{BinaryParagraph, SourceParagraph, binary_paragraph, binary_rows, onto_rows, refused_at, rows_behind, source_paragraph, source_rows}
+use Rattle.wb_merge.specs.Rows.{BinaryParagraph, SourceParagraph, binary_paragraph, binary_rows, onto_rows, refused_at}
+use Rattle.wb_merge.specs.Rows.{rows_behind, source_paragraph, source_rows}
 use Rattle.deb_control.specs.Lines.{lines_of, paragraphs_in}
 use Rattle.wb_merge.specs.Report.{first_bad_line, lines_in}
 use Rattle.wb_step.specs.Arguments.{Import, Lists, Lines, arguments_of}

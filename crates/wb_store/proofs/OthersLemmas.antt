@@ -1,6 +1,7 @@
 -- The tables of others keep their rows: where nothing is done, where one change follows another, where one of the office's tables is changed, and where those of the
 -- second schema are made.
-use Rattle.std.proofs.Common.{◌≡◌, ◌≢◌, ◌==◌, ℕ, Bool, true, false, List, [], ◌∷◌, ◌++◌, append-nil, inl, inr, refl, sym, ap, subst, ◌∙◌}
+use Rattle.std.proofs.Common.{◌≡◌, ◌≢◌, ◌==◌, ℕ, Bool, true, false, List, [], ◌∷◌, ◌++◌, append-nil, inl, inr, refl}
+use Rattle.std.proofs.Common.{sym, ap, subst, ◌∙◌}
 use Rattle.std.specs.List.{AllByRecursion}
 use Rattle.std.proofs.lemmas.Bool.{both_ways, eq-eqb, or_parts}
 use Rattle.sqlite.specs.Schema.{Schema}
@@ -16,7 +17,8 @@ use Rattle.wb_sql.specs.Changes.{SetsTable}
 use Rattle.wb_sql.specs.Among.{HasTable, names_either, names_office, table_at, table_in}
 use Rattle.wb_sql.specs.Making.{MakesTables}
 use Rattle.wb_sql.specs.Tables.{office, arch, builder, source_record, source_state, scratch_source, scratch_binary}
-use Rattle.wb_sql.specs.Upgrading.{with_second, with_second_binary, with_second_order, with_second_record, with_second_source, with_second_take}
+use Rattle.wb_sql.specs.Upgrading.{with_second, with_second_binary, with_second_order, with_second_record}
+use Rattle.wb_sql.specs.Upgrading.{with_second_source, with_second_take}
 use Rattle.wb_sql.proofs.AppendLemmas.{all_both, all_split}
 use Rattle.wb_store.specs.Others.{KeepsOthers, KeepsOthersIn, KeepsOthersOver, same_schema}
 pub use Rattle.wb_store.specs.MergeLaws.{others_then}

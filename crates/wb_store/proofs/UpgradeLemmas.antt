@@ -1,5 +1,6 @@
 -- The steps by which an office of the first schema is brought over into the second.
-use Rattle.std.proofs.Common.{◌≡◌, inl, inr, ℕ, true, List, [], ◌∷◌, Result, Ok, Err, IfErr, OnOk, refl, sym, ap, subst, ◌∙◌, arith, IsTrue}
+use Rattle.std.proofs.Common.{◌≡◌, inl, inr, ℕ, true, List, [], ◌∷◌, Result, Ok, Err, IfErr, OnOk, refl, sym, ap, subst}
+use Rattle.std.proofs.Common.{◌∙◌, arith, IsTrue}
 use Rattle.std.specs.FinMap as finite
 use Rattle.std.specs.List.{list_all}
 use Rattle.sqlite_trees.specs.declared.store.Store.{Ghosts}
@@ -12,7 +13,8 @@ use Rattle.sqlite.specs.Term.{holds}
 use Rattle.sqlite.specs.Tree.{put_row}
 use Rattle.sqlite.specs.State.{State, Executes, HasCleanDisk}
 use Rattle.sqlite.proofs.StateLemmas.{survives_then, survives_weaker}
-use Rattle.wb_sql.specs.Among.{DeletesAmong, HasOffice, HasStates, IsNumbered, UpdatesAmong, rows_in, table_in, tree_named}
+use Rattle.wb_sql.specs.Among.{DeletesAmong, HasOffice, HasStates, IsNumbered, UpdatesAmong, rows_in, table_in}
+use Rattle.wb_sql.specs.Among.{tree_named}
 use Rattle.wb_sql.specs.Calls.{RunsStatement}
 use Rattle.wb_sql.specs.Changes.{Deletes, IsOnlyOne, Updates}
 use Rattle.wb_sql.specs.FirstSchema.{second_format}
@@ -42,14 +44,16 @@ use Rattle.wb_store.specs.MergeLaws.{survives_itself}
 use Rattle.wb_store.specs.Others.{same_schema}
 use Rattle.wb_store.specs.Stands.{HoldsRows, StandsFor, arch_rows, builder_rows, office_row, office_row_in}
 use Rattle.wb_store.specs.Settled.{IsFirstOffice}
-use Rattle.wb_store.specs.Upgrading.{FailsToMove, IsBetween, IsInside, IsMoved, IsUpgrading, Moves, with_records, without_records}
+use Rattle.wb_store.specs.Upgrading.{FailsToMove, IsBetween, IsInside, IsMoved, IsUpgrading, Moves, with_records}
+use Rattle.wb_store.specs.Upgrading.{without_records}
 use Rattle.wb_store.specs.Writes as write
 use Rattle.wb_store.specs.Writes.{IsTextOfWrite, OfficeWrite, table_written, written_by}
 use Rattle.wb_store.specs.declared.format.Format.TheVariants.{One}
 use Rattle.wb_store.proofs.ChangeRowLemmas.{office_typed, typed_at}
 use Rattle.wb_store.proofs.MapLemmas.{all_inserted, inserted}
 use Rattle.wb_store.proofs.NumberedLemmas.{numbered_of}
-use Rattle.wb_store.proofs.OthersLemmas.{HasAllTables, office_either, over_kept, over_made, over_same, over_set, over_then, same_has_all, states_either}
+use Rattle.wb_store.proofs.OthersLemmas.{HasAllTables, office_either, over_kept, over_made, over_same, over_set}
+use Rattle.wb_store.proofs.OthersLemmas.{over_then, same_has_all, states_either}
 use Rattle.wb_store.proofs.PreparingLemmas.{no_records_held}
 use Rattle.wb_store.proofs.RenewalLemmas.{only_row}
 use Rattle.wb_store.proofs.StaysLemmas.{was_clean}

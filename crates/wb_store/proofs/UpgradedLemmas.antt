@@ -17,7 +17,8 @@ use Rattle.wb_store.specs.Others.{KeepsOthersOver}
 use Rattle.wb_store.specs.Settled.{IsOffice, StandsForTrees}
 use Rattle.wb_store.specs.Stands.{StandsFor}
 use Rattle.wb_store.specs.Settled.{IsFirstOffice}
-use Rattle.wb_store.specs.Upgrading.{AreRecordsOf, FailsToMove, HasFirst, IsInside, IsMoved, LeavesOrUpgrades, Moves, UpgradesOffice, with_records, without_records}
+use Rattle.wb_store.specs.Upgrading.{AreRecordsOf, FailsToMove, HasFirst, IsInside, IsMoved, LeavesOrUpgrades, Moves}
+use Rattle.wb_store.specs.Upgrading.{UpgradesOffice, with_records, without_records}
 use Rattle.wb_store.proofs.PreparingLemmas.{over_of, taken_of}
 use Rattle.wb_store.proofs.SettledLemmas.{office_of, office_trees}
 use Rattle.wb_store.proofs.StaysLemmas.{was_clean}

@@ -1,5 +1,6 @@
 -- A command is asked for by its own name.
-use Rattle.std.proofs.Common.{◌≡◌, ◌∙◌, refl, sym, true, false, List, bytes_eq, Decides, if◌then◌else◌, Option, Some, None, option_map, option_and_then, codes}
+use Rattle.std.proofs.Common.{◌≡◌, ◌∙◌, refl, sym, true, false, List, bytes_eq, Decides, if◌then◌else◌, Option, Some}
+use Rattle.std.proofs.Common.{None, option_map, option_and_then, codes}
 use Rattle.std.proofs.lemmas.Slice.Eq.{bytes_eq-Decides}
 use Rattle.std.proofs.lemmas.Option.{none-some}
 use Rattle.std.specs.Option.{option_or}
@@ -7,7 +8,9 @@ use Rattle.clap.specs.Words.{Row, Text}
 use Rattle.wb_states.specs.Commands.{name_of_command}
 use Rattle.wb_states.specs.declared.command.Command.{Command}
 use Rattle.wb_words.specs.Arguments.{word_of, number_of, integer_of, optional_number_of, named_source_of}
-use Rattle.wb_words.specs.Words.{add_arch_of, add_builder_of, enter_of, give_back_of, dep_wait_of, fail_of, not_for_us_of, rebuild_of, build_priority_of, next_of, take_of, built_of, uploaded_of, put_back_of, waits_of, attempted_of, operator_command, builder_command, command_named}
+use Rattle.wb_words.specs.Words.{add_arch_of, add_builder_of, enter_of, give_back_of, dep_wait_of, fail_of}
+use Rattle.wb_words.specs.Words.{not_for_us_of, rebuild_of, build_priority_of, next_of, take_of, built_of, uploaded_of}
+use Rattle.wb_words.specs.Words.{put_back_of, waits_of, attempted_of, operator_command, builder_command, command_named}
 
 -- what may be there is a command of this name
 abbrev IsNamed : Text → Option Command → Type 0

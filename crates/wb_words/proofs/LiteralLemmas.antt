@@ -1,10 +1,14 @@
 -- What a proof unfolds, beside clap's own, to compute what words ask for; a number, an integer and a part of a merge stay as they are.
 use Rattle.std.specs.Prelude.{⊤}
-use Rattle.wb_words.specs.Arguments.{integer_of, number_of, optional_number_of, parts_of, named_source_of, word_of, words_of}
+use Rattle.wb_words.specs.Arguments.{integer_of, number_of, optional_number_of, parts_of, named_source_of, word_of}
+use Rattle.wb_words.specs.Arguments.{words_of}
 use Rattle.wb_words.specs.Escapes.{has_negative_value}
 use Rattle.wb_words.specs.Usages.{wb_app}
-use Rattle.wb_words.specs.Words.{add_arch_of, add_builder_of, attempted_of, build_priority_of, invocation_in, invocation_named, invocation_read, builder_command, built_of, command_named, dep_wait_of}
-use Rattle.wb_words.specs.Words.{enter_of, fail_of, give_back_of, list_invocation, merge_of, next_of, not_for_us_of, operator_command, other_invocation, put_back_of}
+use Rattle.wb_words.specs.Words.{add_arch_of, add_builder_of, attempted_of, build_priority_of, invocation_in}
+use Rattle.wb_words.specs.Words.{invocation_named, invocation_read, builder_command, built_of, command_named}
+use Rattle.wb_words.specs.Words.{dep_wait_of}
+use Rattle.wb_words.specs.Words.{enter_of, fail_of, give_back_of, list_invocation, merge_of, next_of, not_for_us_of}
+use Rattle.wb_words.specs.Words.{operator_command, other_invocation, put_back_of}
 use Rattle.wb_words.specs.Words.{query_named, rebuild_of, report_of, take_of, uploaded_of, waits_of}
 
 unfoldable pub words_on_literals : ⊤

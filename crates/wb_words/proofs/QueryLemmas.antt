@@ -1,5 +1,6 @@
 -- Words that begin with the name of a query ask for a query, or for nothing.
-use Rattle.std.proofs.Common.{◌≡◌, refl, sym, subst, true, false, cond, List, [], ◌∷◌, bytes_eq, Decides, is_some, Option, None, Some, option_map, option_and_then, codes}
+use Rattle.std.proofs.Common.{◌≡◌, refl, sym, subst, true, false, cond, List, [], ◌∷◌, bytes_eq, Decides, is_some}
+use Rattle.std.proofs.Common.{Option, None, Some, option_map, option_and_then, codes}
 use Rattle.std.specs.Prelude.{IfSome}
 use Rattle.std.specs.List.{AllByRecursion}
 use Rattle.std.specs.Option.{option_or}

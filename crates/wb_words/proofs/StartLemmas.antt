@@ -1,6 +1,8 @@
 -- The program's own command line is one of which clap says what it reads.
-use Rattle.std.proofs.Common.{◌≡◌, ◌∙◌, Bool, true, false, if◌then◌else◌, bytes_eq, Decides, refl, sym, List, [], map, Option, None, Some, option_map, ap, ap₂, subst, inl, inr, codes}
-use Rattle.clap.specs.Words.{App, HasKind, IsAmong, Row, Text, fault_of, first_of, is_simple, is_simple_and_free, kind_of, matches_of, subcommand_of}
+use Rattle.std.proofs.Common.{◌≡◌, ◌∙◌, Bool, true, false, if◌then◌else◌, bytes_eq, Decides, refl, sym, List, [], map}
+use Rattle.std.proofs.Common.{Option, None, Some, option_map, ap, ap₂, subst, inl, inr, codes}
+use Rattle.clap.specs.Words.{App, HasKind, IsAmong, Row, Text, fault_of, first_of, is_simple, is_simple_and_free}
+use Rattle.clap.specs.Words.{kind_of, matches_of, subcommand_of}
 use Rattle.std.specs.Prelude.{Box}
 use Rattle.std.specs.Borrow.{Bor}
 use Rattle.std.specs.Box.{box_value}
@@ -15,7 +17,9 @@ use Rattle.clap.specs.declared.error.Error.{Error}
 use Rattle.clap.specs.declared.error.kind.ErrorKind.{ErrorKind}
 use Rattle.clap.specs.declared.error.kind.ErrorKind.TheVariants.{DisplayHelp, OutOfMemory}
 use Rattle.clap.proofs.OnLiterals.{clap_on_literals}
-use Rattle.wb_words.specs.Start.{Asks, AsksNone, IsNoStart, Names, Starts, begin_with_query, begins_with_help, single_words, start_app, start_faults, start_words, store_in, subcommand_in, with_journal}
+use Rattle.wb_words.specs.Start.{Asks, AsksNone, IsNoStart, Names, Starts, begin_with_query, begins_with_help}
+use Rattle.wb_words.specs.Start.{single_words, start_app, start_faults, start_words, store_in, subcommand_in}
+use Rattle.wb_words.specs.Start.{with_journal}
 use Rattle.wb_words.specs.declared.start.Start.{Start}
 use Rattle.wb_words.specs.declared.start.Start.TheVariants.{Run, Serve, Ask, CarryOut, Help}
 

@@ -1,5 +1,6 @@
 -- How words are read of which the last is a negative build priority: as if `--` stood before it.
-use Rattle.std.specs.Prelude.{◌==◌, ◌&&◌, ◌-◌, ℕ, Bool, false, not, List, [], ◌∷◌, length, codes, nat_lt, slice_get, if◌then◌else◌}
+use Rattle.std.specs.Prelude.{◌==◌, ◌&&◌, ◌-◌, ℕ, Bool, false, not, List, [], ◌∷◌, length, codes, nat_lt, slice_get}
+use Rattle.std.specs.Prelude.{if◌then◌else◌}
 use Rattle.std.specs.Char.{is_ascii_digit}
 use Rattle.std.specs.List.{insert, list_all, list_any}
 use Rattle.std.specs.Option.{option_map_or}

@@ -1,9 +1,11 @@
 -- What the words after the program's name ask of it, as `clap` reads them.
-use Rattle.std.specs.Prelude.{◌≡◌, ◌≢◌, ◌⊎◌, ℕ, List, [], ◌∷◌, Bool, true, false, if◌then◌else◌, drop, map, nat_eq, Option, Some, None, codes, option_and_then, option_map, ⊤}
+use Rattle.std.specs.Prelude.{◌≡◌, ◌≢◌, ◌⊎◌, ℕ, List, [], ◌∷◌, Bool, true, false, if◌then◌else◌, drop, map, nat_eq}
+use Rattle.std.specs.Prelude.{Option, Some, None, codes, option_and_then, option_map, ⊤}
 use Rattle.std.specs.Borrow.{Bor}
 use Rattle.std.specs.List.{starts_with}
 use Rattle.std.specs.Str.{bytes_eq}
-use Rattle.clap.specs.Words.{App, IsAmong, Kinds, Row, Text, fault_of, first_of, matches_of, new_app, subcommand_of, with_subcommand}
+use Rattle.clap.specs.Words.{App, IsAmong, Kinds, Row, Text, fault_of, first_of, matches_of, new_app, subcommand_of}
+use Rattle.clap.specs.Words.{with_subcommand}
 use Rattle.clap.specs.declared.error.kind.ErrorKind.{ErrorKind}
 use Rattle.clap.specs.declared.error.kind.ErrorKind.TheVariants.{DisplayHelp}
 use Rattle.wb_words.specs.Arguments.{word_of}

@@ -7,7 +7,9 @@ use Rattle.deb_relations.specs.Arch.{arch_matches}
 use Rattle.deb_relations.specs.Grammar.{is_not_blank, is_white, is_profile_char, is_op_char, is_qualifier, is_word, op_of, words}
 use Rattle.deb_relations.specs.Names.{is_lower_or_digit, is_package_char, is_arch_char, is_arch_word, is_package_name}
 use Rattle.deb_relations.specs.Printing.{terms_text, alternative_text, group_text, printed}
-use Rattle.deb_relations.specs.Reader.{is_solid, between, read_name, read_qualifier, restriction_of, read_restriction, term_of, terms_of, arch_terms_of, read_archs, profile_of, read_profiles, read_alternative, read_group, read_groups, with_group}
+use Rattle.deb_relations.specs.Reader.{is_solid, between, read_name, read_qualifier, restriction_of, read_restriction}
+use Rattle.deb_relations.specs.Reader.{term_of, terms_of, arch_terms_of, read_archs, profile_of, read_profiles}
+use Rattle.deb_relations.specs.Reader.{read_alternative, read_group, read_groups, with_group}
 use Rattle.deb_relations.specs.Reading.{name_fault, fault_behind_operator, asked_fault, restriction_fault, words_fault, archs_fault, list_fault, profiles_fault, alternative_fault, is_alternative, group_fault, is_group_or_blank, groups_fault, reading_of}
 use Rattle.deb_relations.specs.Reduction.{has_match, holds_without_profiles, is_kept, reduced_group, reduced}
 use Rattle.deb_relations.specs.Satisfaction.{is_alternative_met, is_group_met, satisfied}

@@ -2,7 +2,8 @@ use Rattle.std.proofs.Common.{◌≡◌, ◌<◌, ◌^◌, ℕ, List, refl, Opti
 use Rattle.std.specs.Prelude.{nat_lt, pos}
 use Rattle.std.proofs.lemmas.Bool.Decides.{nat_tests}
 use Rattle.serde_json.proofs.OnLiterals.{serde_json_on_literals}
-use Rattle.wb_api.specs.Commands.{attempted_in, build_priority_in, dep_wait_in, fail_in, give_back_in, next_in, not_for_us_in, rebuild_in, named_source_in, take_in, waits_in}
+use Rattle.wb_api.specs.Commands.{attempted_in, build_priority_in, dep_wait_in, fail_in, give_back_in, next_in}
+use Rattle.wb_api.specs.Commands.{not_for_us_in, rebuild_in, named_source_in, take_in, waits_in}
 use Rattle.wb_api.specs.Commands.{command_in}
 use Rattle.wb_api.specs.declared.route.CommandKind.TheVariants as kind
 use Rattle.wb_journal.specs.Commands.{value_of_command}

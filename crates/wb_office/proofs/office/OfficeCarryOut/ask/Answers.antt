@@ -1,5 +1,6 @@
 use Rattle.wb_states.proofs.QueryLemmas.{answer-has-no-store}
-use Rattle.wb_office.proofs.AskLemmas.{asked_answer, asked_refused, asked_memory, asked_cause, asked_closed, asked_store}
+use Rattle.wb_office.proofs.AskLemmas.{asked_answer, asked_refused, asked_memory, asked_cause, asked_closed}
+use Rattle.wb_office.proofs.AskLemmas.{asked_store}
 use Rattle.wb_office.proofs.ApplyLemmas.{is_open, told_closed}
 use Rattle.wb_office.proofs.office.OfficeCarryOut.ask.Goals as goal
 

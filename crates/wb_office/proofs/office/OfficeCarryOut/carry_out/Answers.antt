@@ -1,4 +1,5 @@
-use Rattle.wb_office.proofs.ApplyLemmas.{carried_refused, carried_memory, carried_cause, carried_closed, carried_store, is_open, told_closed}
+use Rattle.wb_office.proofs.ApplyLemmas.{carried_refused, carried_memory, carried_cause, carried_closed, carried_store}
+use Rattle.wb_office.proofs.ApplyLemmas.{is_open, told_closed}
 use Rattle.wb_office.proofs.office.OfficeCarryOut.carry_out.Goals as goal
 
 pub returns-clause-refused : goal.returns-clause-refused

@@ -1,5 +1,6 @@
 use Rattle.wb_office.proofs.ApplyLemmas.{is_open, told_closed}
-use Rattle.wb_office.proofs.ListApplyLemmas.{lists_are_refused, lists_cause, lists_closed, lists_memory, lists_reply, lists_store}
+use Rattle.wb_office.proofs.ListApplyLemmas.{lists_are_refused, lists_cause, lists_closed, lists_memory, lists_reply}
+use Rattle.wb_office.proofs.ListApplyLemmas.{lists_store}
 use Rattle.wb_office.proofs.office.OfficeMergeFrom.merge_from.Goals as goal
 
 pub returns-clause-shut : goal.returns-clause-shut
