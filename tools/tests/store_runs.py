@@ -15,6 +15,7 @@ from pathlib import Path
 from harness import WAIT, WB, Failure, answers_of, expect
 
 FAULTS = {"NotOffice", "NewerSchema", "Damaged", "Memory", "Device", "InUse"}
+OFFICE_TABLES = ["builder", "source_record", "arch", "office", "scratch_source", "scratch_binary"]
 TWO_ARCHS = ["add-arch amd64 linux amd64", "add-arch arm64 linux arm64", "add-builder b1 amd64", "add-builder b2 arm64"]
 
 
@@ -139,3 +140,37 @@ def filled(folder):
     answers = answers_of(folder, lines)
     expect(all("accepted" in answer for answer in answers), f"some line was refused: {answers}")
     return 41
+
+
+def opened(folder, *words):
+    """The status, the answer and the messages of the program over the file `store`, with these words or with a run that
+    reads no line."""
+    done = subprocess.run(
+        [WB, "--store", "store", *(words or ["run"])], cwd=folder, stdin=subprocess.DEVNULL, capture_output=True,
+        timeout=WAIT, check=False,
+    )
+    return done.returncode, done.stdout, done.stderr.decode()
+
+
+def script(folder, text):
+    """A database of these statements, made by sqlite3, whose pages have no checksums."""
+    with contextlib.closing(sqlite3.connect(folder / "store")) as database:
+        database.executescript(text)
+
+
+def script_with_sums(folder, text):
+    """The same in a file whose pages have checksums."""
+    opened(folder)
+    edit(folder / "store", *(f"DROP TABLE {name}" for name in OFFICE_TABLES))
+    script(folder, text)
+    seal(folder / "store")
+
+
+def frames(folder):
+    """The log of an office that was killed, with its frames, made in a folder beside this one."""
+    place = folder.with_name(f"{folder.name} log")
+    place.mkdir()
+    session = Session(place)
+    session.ask(TWO_ARCHS[0])
+    session.kill()
+    return (place / "store-wal").read_bytes()

@@ -19,7 +19,10 @@ import time
 from pathlib import Path
 
 from harness import HERE, SEED, WAIT, WB, Failure, LeftOut, answers_of, expect, limit_files, main, program, run
-from store_runs import TWO_ARCHS, Session, edit, filled, page_size, refusal_of, rows_of, seal
+from store_runs import (
+    OFFICE_TABLES, TWO_ARCHS, Session, edit, filled, frames, opened, page_size, refusal_of, rows_of, script,
+    script_with_sums,
+)
 
 
 # ---- files of a store
@@ -326,8 +329,6 @@ def names_the_bad_row(folder):
     expect(not failed, "; ".join(failed))
 
 
-OFFICE_TABLES = ["builder", "source_record", "arch", "office", "scratch_source", "scratch_binary"]
-
 # Tables of others with their rows, and a view of theirs on one of the office's tables.
 TABLES_OF_OTHERS = [
     "CREATE TABLE note(id INTEGER PRIMARY KEY, source TEXT NOT NULL, text TEXT)",
@@ -575,40 +576,6 @@ def opens_what_a_link_leads_to(folder):
 
 
 # ---- what becomes of a file
-
-
-def opened(folder, *words):
-    """The status, the answer and the messages of the program over the file `store`, with these words or with a run that
-    reads no line."""
-    done = subprocess.run(
-        [WB, "--store", "store", *(words or ["run"])], cwd=folder, stdin=subprocess.DEVNULL, capture_output=True,
-        timeout=WAIT, check=False,
-    )
-    return done.returncode, done.stdout, done.stderr.decode()
-
-
-def script(folder, text):
-    """A database of these statements, made by sqlite3, whose pages have no checksums."""
-    with contextlib.closing(sqlite3.connect(folder / "store")) as database:
-        database.executescript(text)
-
-
-def script_with_sums(folder, text):
-    """The same in a file whose pages have checksums."""
-    opened(folder)
-    edit(folder / "store", *(f"DROP TABLE {name}" for name in OFFICE_TABLES))
-    script(folder, text)
-    seal(folder / "store")
-
-
-def frames(folder):
-    """The log of an office that was killed, with its frames, made in a folder beside this one."""
-    place = folder.with_name(f"{folder.name} log")
-    place.mkdir()
-    session = Session(place)
-    session.ask(TWO_ARCHS[0])
-    session.kill()
-    return (place / "store-wal").read_bytes()
 
 
 FORMATS = {number: (HERE / "stores" / f"format-{number}.sql").read_text() for number in (1, 2)}
