@@ -201,7 +201,7 @@ def page_of_history_has_each_question(_folder):
     questions = re.findall(r"^    ([a-z]+) ", said.partition("QUESTION\n")[2].partition("options:")[0], re.M)
     text = page_text("wb-history.1")
     stated = re.findall(r"^\.BI? ([a-z]+)", text.partition(".SH QUESTIONS")[2].partition(".SH OPTIONS")[0], re.M)
-    expect(len(questions) == 6 and stated == questions, f"docs/wb-history.1 has {stated}, and the script {questions}")
+    expect(len(questions) == 9 and stated == questions, f"docs/wb-history.1 has {stated}, and the script {questions}")
     expect(
         completed("wb-history", "journal", "") == sorted(questions),
         f"after wb-history: {completed('wb-history', 'journal', '')}",

@@ -7,7 +7,8 @@ from collections.abc import Iterator, Sequence
 from dataclasses import dataclass, field
 
 from wb_tools.answers import HELD, STATES, Answer, ByState, Queue, Record, Summary, counted, printable
-from wb_tools.journal import History, built_by_day, day_of
+from wb_tools.index.asking import Index
+from wb_tools.journal import day_of
 from wb_tools.style import AGE, AGE_HASH, STYLE
 
 LISTED = [
@@ -26,7 +27,7 @@ class Arch:
 
     name: str
     suite: str = ""
-    history: History | None = None
+    index: Index | None = None
     summary: Summary | None = None
     queue: Queue | None = None
     lists: dict[str, list[Record]] = field(default_factory=dict)
@@ -172,21 +173,14 @@ def queue_table(arch: Arch, words: argparse.Namespace) -> Iterator[str]:
     yield from table(arch.place("queue"), caption, ["Place", "Package"], rows, words.first)
 
 
-def since(record: Record, history: History) -> int | None:
-    """When a held package was handed out, or reported as built or uploaded, if the journal has it."""
-    moves = history.moves.get((record.arch, record.source), [])
-    found = (move.at for move in reversed(moves) if (move.take, move.state) == (record.take, record.state))
-    return next(found, None)
-
-
-def held_cells(record: Record, history: History | None) -> Iterator[str]:
+def held_cells(record: Record, index: Index | None) -> Iterator[str]:
     """The cells of what a builder holds; with a journal the time since when is the last, if the journal has it."""
     yield package(record)
     yield builder_cell(record)
     yield f'<td class="take">{record.take}</td>'
-    if history is not None:
-        at = since(record, history)
-        yield "<td></td>" if at is None else f'<td class="since">{clock(at)}</td>'
+    if index is not None:
+        since = index.since((record.arch, record.source), record.state, record.take)
+        yield f'<td class="since">{clock(since.at)}</td>' if since and since.is_exact else "<td></td>"
 
 
 def clock(at: int) -> str:
@@ -197,8 +191,9 @@ def clock(at: int) -> str:
 def days_table(arch: Arch, words: argparse.Namespace) -> Iterator[str]:
     """How many packages were built on each of the last days, the last first, if there is a journal; not on days before
     its first line."""
-    if arch.history and arch.history.first:
-        days, first = built_by_day(arch.history), day_of(arch.history.first.at)
+    first_entry, _ = arch.index.ends() if arch.index else (None, None)
+    if arch.index and first_entry:
+        days, first = arch.index.built_by_day(), day_of(first_entry[1])
         last = [day for day in (day_of(words.now - 86400 * at) for at in range(DAYS)) if day >= first]
         built = {day: days.get(day, {}).get(arch.name, 0) for day in last}
         rows = [row(f'<td class="day">{html.escape(day)}</td>', number(count)) for day, count in built.items()]
@@ -207,11 +202,11 @@ def days_table(arch: Arch, words: argparse.Namespace) -> Iterator[str]:
 
 def lists_of(arch: Arch, words: argparse.Namespace) -> Iterator[str]:
     """The tables of what is held, waits, cannot be installed or failed."""
-    heads = ["Package", "Builder", "Take", *(["Since"] if arch.history else [])]
+    heads = ["Package", "Builder", "Take", *(["Since"] if arch.index else [])]
     for state, caption in HOLDS.items():
         of_builder = state == "Building"  # what is built now, by its builder; what was reported, the oldest first
         held = sorted(arch.records(state), key=lambda one: ((one.holder or "") if of_builder else "", one.take or 0))
-        rows = [row(*held_cells(one, arch.history)) for one in held]
+        rows = [row(*held_cells(one, arch.index)) for one in held]
         yield from table(arch.place(state), caption, heads, rows, words.rows)
     for state, (caption, head) in REASONS.items():
         rows = [row(package(one), text_cell(one.waits or one.note)) for one in arch.records(state)]
@@ -327,7 +322,7 @@ def page(archs: Sequence[Arch], words: argparse.Namespace) -> Iterator[str]:
     yield from overview(archs)
     for arch in archs:
         yield from section(arch, words)
-    has_times = any(arch.history for arch in archs)
+    has_times = any(arch.index for arch in archs)
     times = "Days and times are those of its journal, in UTC." if has_times else "It keeps no times."
     yield (
         "</main><footer><p>Each table is an answer of its own, and the office may have gone on between two of them. "

@@ -1,4 +1,4 @@
-"""Answers from the journal of an office; `--help` says how."""
+"""Answers from the journal of an office, or from its index; `--help` says how."""
 import argparse
 import contextlib
 import datetime
@@ -7,30 +7,42 @@ import os
 import shutil
 import sys
 from collections.abc import Callable, Iterable, Iterator
+from pathlib import Path
 from typing import Any
 
 from wb_tools import outlive_readers
-from wb_tools.answers import DONE, FAILED, REFUSED, add_url_options, printable
+from wb_tools.answers import DONE, FAILED, REFUSED, STATES, add_url_options, counted, printable
 from wb_tools.columns import NAME, REASON, WHOLE, Column, lines_of
-from wb_tools.journal import Cut, History, gather
+from wb_tools.index import tables
+from wb_tools.index.asking import Index
+from wb_tools.index.reading import is_behind, read_on, read_whole
+from wb_tools.journal import Cut, read_journal, time_of
 from wb_tools.lists import Refused, arch_word, parser_of, say
 from wb_tools.sheets import (
-    Row, Sheet, ages_sheets, builders_sheet, days_sheet, gaps_sheet, package_sheet, suspects_sheet,
+    Row, Sheet, ages_sheets, builders_sheet, builds_sheet, days_sheet, gaps_sheet, package_sheet, states_sheet,
+    suspects_sheet,
 )
 
 PROGRAM = "wb-history"
 DESCRIPTION = """Answers questions from the journal that `wb run` and `wb serve` write with --journal FILE: a line for
 each accepted command, with the time.
 
-The questions: `package` is what became of a package, by each command that names it; `ages` how long what builds has
-been building, how long ago what is Built or Uploaded was reported, and how long what waits has waited; `builders` what
-each builder did and how long its builds took; `suspects` what builds for much longer than it should; `days` how many
-packages were built on each day; `gaps` where commands are missing between two lines, which a kill may have cost, or
-where the office went back to an older state.
+The questions: `package` is what became of a package, by each command that names it, and by each merge and report whose
+line says what it moved; `ages` how long what builds has been building, how long ago what is Built or Uploaded was
+reported, and how long what waits has waited, or what is in any state; `builds` each build with its result and how long
+it took; `builders` what each builder did and how long its builds took; `suspects` what builds for much longer than it
+should; `days` how many packages were built on each day; `states` how many came into each state on each day; `gaps`
+where commands are missing between two lines, which a kill may have cost, or where the office went back to an older
+state.
 
-A build takes from the hand-out to the report of its holder: built, uploaded, waits, attempted or put-back. A journal
-does not name the packages that a merge or a report moved; where one came since, the tables say so. With --url `ages`
-and `suspects` ask a serving office on this machine what is there now, and the journal since when. All days and times
+`index` makes a database of sqlite3 of the journal, JOURNAL.index if --index names no other file, or reads the journal
+on from where the index ends, also after logrotate has moved it away. If there is such a file, all questions read on in
+the same way and then ask it, and do not read the whole journal; who may not write it asks it as it stands.
+
+A build takes from the hand-out to the report of its holder: built, uploaded, waits, attempted or put-back. If the line
+of a merge or a report does not say which packages it moved, the tables say where one came since. With --url `ages` and
+`suspects` ask a serving office on this machine what is there now, and the journal since when: `before` a time, if the
+package may have come into its state by a line that does not name it, or before the journal began. All days and times
 are in UTC. With --json each row is an object of JSON, on a line of its own, and times that something took are in
 seconds. In a terminal a table that is too wide leaves columns out, and says which.
 
@@ -38,13 +50,12 @@ A journal whose last line was cut off, as a kill leaves it, is read up to that l
 EXAMPLE = """  tools/bin/wb-history journal package amd64 hello
   tools/bin/wb-history journal ages --arch amd64 --url http://127.0.0.1:8080
   tools/bin/wb-history journal suspects --times 4
-  tools/bin/wb-history journal days --days 30"""
+  tools/bin/wb-history journal days --days 30
+  tools/bin/wb-history journal index"""
 STATUSES = """Status: 0 if all was shown; 1 if a line of the journal is malformed or the office refuses: the message
 says which, and the others are shown; 2 if the words of the command line are wrong; 3 if a file cannot be read, or the
 office does not answer. Messages are on standard error. SOURCE_DATE_EPOCH, if it is set, is the seconds that are taken
 for now."""
-
-
 
 
 # ---- what is shown
@@ -62,6 +73,8 @@ def cell(row: Row, key: str, kind: str) -> str:
     name, _, inner = key.partition("/")
     value = row.get(name)
     value = value.get(inner) if inner and value else value
+    if kind == "since":
+        kind, value = "time", value or ("before" in row and f"before {row['before']}")
     if value is None or value is False:
         return ""
     if kind == "span":
@@ -100,29 +113,63 @@ def show(sheets: Iterable[Sheet], words: argparse.Namespace) -> None:
     sys.stdout.flush()
 
 
-QUESTIONS: dict[str, Callable[[History, argparse.Namespace], Iterator[Sheet]]] = {
+QUESTIONS: dict[str, Callable[[Index, argparse.Namespace], Iterator[Sheet]]] = {
+    "package": package_sheet,
     "ages": ages_sheets,
+    "builds": builds_sheet,
     "builders": builders_sheet,
     "suspects": suspects_sheet,
     "days": days_sheet,
+    "states": states_sheet,
     "gaps": gaps_sheet,
 }
 
 
+# ---- where answers come from
+
+
+def whole_journal(name: str) -> tuple[Index, list[Refused]]:
+    """What a journal without an index says, and why lines of it could not be read."""
+    with contextlib.nullcontext(sys.stdin.buffer) if name == "-" else open(name, "rb") as file:
+        connection, faults = read_whole(read_journal("standard input" if name == "-" else name, file))
+    return Index(connection), faults
+
+
+def updated(journal: Path, file: Path) -> tuple[Index, list[Refused]]:
+    """The index after the journal was read on, and why lines that were read now could not be."""
+    with tables.refused_if_damaged(file):
+        connection = tables.open_to_write(file)
+        return Index(connection), list(read_on(connection, journal))
+
+
+def as_it_stands(journal: Path, file: Path) -> tuple[Index, list[Refused]]:
+    """The index that the caller may not write."""
+    connection = tables.open_to_read(file)
+    if is_behind(connection, journal):
+        say(PROGRAM, f"{file} ends before the journal does, and only who may write it reads on")
+    return Index(connection), []
+
+
+def index_of(words: argparse.Namespace) -> tuple[Index, list[Refused]]:
+    """The index that is asked, and why lines that were read for it could not be."""
+    file = words.index or Path(f"{words.journal}.index")
+    if words.journal == "-" or words.question != "index" and not words.index and not file.exists():
+        return whole_journal(words.journal)
+    is_writable = all(os.access(path, os.W_OK) for path in (file.parent, *([file] if file.exists() else [])))
+    return (updated if is_writable or words.question == "index" else as_it_stands)(Path(words.journal), file)
+
+
 def answer(words: argparse.Namespace) -> int:
-    with contextlib.nullcontext(sys.stdin.buffer) if words.journal == "-" else open(words.journal, "rb") as file:
-        history, faults = gather("standard input" if words.journal == "-" else words.journal, file)
-    wrong = [fault for fault in faults if not isinstance(fault, Cut)]
-    if wrong and history.first is None:
-        raise Refused(f"{wrong[0]}; no line of it is one of a journal")
+    index, faults = index_of(words)
     for fault in faults:
         say(PROGRAM, str(fault))
-    if words.question == "package":
-        entries = history.imports.get(words.arch, [])
-        show(package_sheet(history, words, entries), words)
+    if words.question == "index":
+        _, last = index.ends()
+        where = f"command {last[0]:,} at {time_of(last[1])}" if last else "no command"
+        print(f"The index ends with {where}, and has {counted(len(index.gaps()), 'gap')}")
     else:
-        show(QUESTIONS[words.question](history, words), words)
-    return REFUSED if wrong else DONE
+        show(QUESTIONS[words.question](index, words), words)
+    return DONE if all(isinstance(fault, Cut) for fault in faults) else REFUSED
 
 
 # ---- words
@@ -141,6 +188,9 @@ def at_least(bound: float, what: str, kind: Callable[[str], Any] = int) -> Calla
 
 def add_question(questions: Any, name: str, about: str, first: bool = True) -> argparse.ArgumentParser:
     one = questions.add_parser(name, help=about, description=about)
+    one.add_argument("--index", metavar="FILE", type=Path, help="the index, else JOURNAL.index if it is there")
+    if name == "index":
+        return one  # type: ignore[no-any-return]
     one.add_argument("--json", action="store_true", help="print each row as an object of JSON")
     one.add_argument("--wide", action="store_true", help="leave out no column, and cut no text, in a terminal too")
     if first:
@@ -157,6 +207,10 @@ def read_words() -> argparse.Namespace:
     package.add_argument("source", metavar="SOURCE")
     package.add_argument("--merges", action="store_true", help="show the merges and reports of the architecture too")
     ages = add_question(questions, "ages", "how long each package has been building, built or uploaded, or waiting")
+    ages.add_argument("--state", choices=STATES, metavar="STATE", help="what is in this state, whichever it is")
+    builds = add_question(questions, "builds", "each build, with its result and how long it took")
+    builds.add_argument("--builder", metavar="BUILDER", help="those of this builder alone")
+    builds.add_argument("--source", metavar="SOURCE", help="those of this source package alone")
     builders = add_question(questions, "builders", "what each builder did, and how long its builds took")
     suspects = add_question(
         questions, "suspects", "what builds for longer than N times the median of the package, or of its builder"
@@ -170,17 +224,23 @@ def read_words() -> argparse.Namespace:
         help="suspect nothing younger, else %(default)s",
     )
     days = add_question(questions, "days", "how many packages were built on each day")
-    days.add_argument(
-        "--days", metavar="N", type=at_least(0, "number"), default=14,
-        help="the last N days, 0 for all, else %(default)s",
-    )
+    states = add_question(questions, "states", "how many packages came into each state on each day")
+    for question in (days, states):
+        question.add_argument(
+            "--days", metavar="N", type=at_least(0, "number"), default=14,
+            help="the last N days, 0 for all, else %(default)s",
+        )
     add_question(questions, "gaps", "where commands are missing between two lines")
-    for question in (ages, builders, suspects, days):
+    add_question(questions, "index", "make an index of the journal, or read on from where it ends")
+    for question in (ages, builds, builders, suspects, days, states):
         question.add_argument("--arch", metavar="ARCH", type=arch_word, help="this architecture alone")
     add_url_options(ages)
     add_url_options(suspects)
     words = parser.parse_args()
-    words.limit = 0 if words.wide or not sys.stdout.isatty() else shutil.get_terminal_size().columns
+    if words.question == "index" and words.journal == "-":
+        parser.error("standard input is read only once, and has no index")
+    is_wide = words.question == "index" or words.wide or not sys.stdout.isatty()
+    words.limit = 0 if is_wide else shutil.get_terminal_size().columns
     now = os.environ.get("SOURCE_DATE_EPOCH") or f"{datetime.datetime.now().timestamp():.0f}"
     if not (now.isascii() and now.isdigit()):
         parser.error(f"SOURCE_DATE_EPOCH: {now[:100]!r} is no number of seconds")

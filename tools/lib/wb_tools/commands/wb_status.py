@@ -11,7 +11,9 @@ from wb_tools import outlive_readers
 from wb_tools.answers import (
     DONE, FAILED, REFUSED, Answer, ByState, Queue, Summary, UnknownArch, add_wait_option, ask, read_lines, suite_url,
 )
-from wb_tools.journal import Cut, Entry, History, read_journal
+from wb_tools.index.asking import Index
+from wb_tools.index.reading import read_whole
+from wb_tools.journal import Cut, Entry, read_journal
 from wb_tools.lists import Refused, arch_word, parser_of, put_in_place, say
 from wb_tools.page import LISTED, Arch, page
 
@@ -84,18 +86,18 @@ def all_gathered(words: argparse.Namespace) -> list[Arch]:
     names: dict[str, list[str]] = {}
     for suite, name in words.journal:
         names.setdefault(suite, []).append(name)
-    histories = {suite: read_history(found) for suite, found in names.items()}
+    indexes = {suite: read_index(found) for suite, found in names.items()}
     offices = [(suite, asked(url, words)) for suite, url in words.url] or [("", read(words))]
     archs = [arch for suite, answers in offices for arch in gathered(suite, answers, words)]
     without = [name for name in words.arch if name not in {arch.name for arch in archs}]
     if without or not archs:
         raise Refused(f"there is no answer to `{' '.join(['summary', *without[:1]])}`")
     for arch in archs:
-        arch.history = histories.get(arch.suite)
+        arch.index = indexes.get(arch.suite)
     return archs
 
 
-def read_history(names: list[str]) -> History:
+def read_index(names: list[str]) -> Index:
     """What journals say, the earliest first in whatever order they are named; what of them cannot be read is
     reported."""
     journals: list[list[Entry]] = []
@@ -108,11 +110,8 @@ def read_history(names: list[str]) -> History:
                 elif not isinstance(found, Cut):
                     say(PROGRAM, str(found))
         journals.append(entries)
-    history = History()
-    for entries in sorted(filter(None, journals), key=lambda entries: entries[0].at):
-        for entry in entries:
-            history.take_in(entry)
-    return history
+    ordered = sorted(filter(None, journals), key=lambda entries: entries[0].at)
+    return Index(read_whole(entry for entries in ordered for entry in entries)[0])
 
 
 def make(words: argparse.Namespace) -> None:
