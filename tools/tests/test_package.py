@@ -28,7 +28,7 @@ from wb_tools.commands import office
 from wb_tools.wanna_build import words as wanna_build_words
 
 WAIT = 30
-PAGES = ("wb.1", "wanna-build.1", "wb-office.8", "wb-table.1", "wb-status.1", "wb-history.1")
+PAGES = ("wb.1", "wanna-build.1", "wb-office.8", "wb-table.1", "wb-status.1", "wb-history.1", "wb-web.1")
 DATE = "1776000000"
 TABLES_PAGES = ("wb-table.1", "wb-status.1")
 SOURCES = "Package: {}\nVersion: {}\nArchitecture: any\nPriority: optional\nSection: misc\n\n"

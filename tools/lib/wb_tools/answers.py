@@ -228,10 +228,15 @@ def add_wait_option(parser: argparse.ArgumentParser) -> None:
     )
 
 
-def body_of(url: str, path: str) -> bytes:
-    """The body of one answer, over a connection of its own."""
+def path_of(query: str, words: Sequence[str]) -> str:
+    """The path of the request for a query."""
+    return "/".join(["/v1", QUERIES[query][1], *(urllib.parse.quote(word, safe="") for word in words)])
+
+
+def body_of(url: str, path: str, wait: float = WAIT) -> bytes:
+    """The body of one answer, over a connection of its own, each part of which comes within so many seconds."""
     parts = urllib.parse.urlsplit(url)
-    connection = http.client.HTTPConnection(parts.hostname or "", parts.port or 80, timeout=WAIT)
+    connection = http.client.HTTPConnection(parts.hostname or "", parts.port or 80, timeout=wait)
     try:
         connection.request("GET", path, headers={"Connection": "close"})
         return connection.getresponse().read()
@@ -273,10 +278,9 @@ def meaning_of(body: bytes, query: str, words: Sequence[str]) -> str:
 
 def ask(url: str, query: str, words: Sequence[str], wait: float = 0) -> Answer:
     """What a serving office answers to a query; one that does not serve yet has so many seconds to start."""
-    path = "/".join(["/v1", QUERIES[query][1], *(urllib.parse.quote(word, safe="") for word in words)])
     asked = " ".join([query, *words])
     try:
-        body = body_in_time(url, path, wait)
+        body = body_in_time(url, path_of(query, words), wait)
     except OSError as why:
         raise OSError(why.errno, f"it does not answer: {why.strerror or why}", f"{url}, {asked}") from None
     except http.client.HTTPException as why:

@@ -143,6 +143,14 @@ class Index:
         """What the journal says of a package, in the order of its lines."""
         return self.events("source = ? AND arch = ?", (key[1], key[0]), "ORDER BY id")
 
+    def latest(self, order: str, limit: int, offset: int, condition: str, values: Sequence[object]) -> list[Event]:
+        """So many events that meet a condition, in this order of columns."""
+        return self.events(condition, (*values, limit, offset), f"ORDER BY {order} LIMIT ? OFFSET ?")
+
+    def count(self, table: str, condition: str, values: Sequence[object]) -> int:
+        """How many rows of a table meet a condition."""
+        return int(next(self.rows(f"SELECT count(*) FROM {table} WHERE {condition}", values))[0])
+
     def imports(self, arch: str) -> list[Import]:
         """The merges and reports of an architecture."""
         rows = self.rows("SELECT * FROM import WHERE arch = ? ORDER BY accepted", (arch,))
@@ -216,6 +224,16 @@ class Index:
             event = Event(*row[3:])
             yield Resting((event.arch or "", event.source or ""), event, Since(row[1], bool(row[2])))
 
+    def oldest(self, arch: str, state: str) -> list[str]:
+        """What the journal last saw in a state, the longest first."""
+        rows = self.rows("SELECT source FROM package WHERE arch = ? AND state = ? ORDER BY at, source", (arch, state))
+        return [source for (source,) in rows]
+
+    def names_with(self, text: str) -> list[str]:
+        """The names in the journal that have a text in them."""
+        rows = self.rows("SELECT DISTINCT source FROM package WHERE instr(source, ?) ORDER BY source", (text,))
+        return [source for (source,) in rows]
+
     # ---- builds
 
     def builds(self, more: str = "ORDER BY id", **columns: object) -> Iterator[Build]:
@@ -223,6 +241,19 @@ class Index:
         condition, values = where(columns)
         for row in self.rows(f"SELECT * FROM build WHERE {condition} {more}", values):
             yield Build(*row)
+
+    def results_of(self, builder: str) -> dict[str, dict[str, list[int | None]]]:
+        """How long each build of a builder took, by architecture and result."""
+        found: dict[str, dict[str, list[int | None]]] = {}
+        rows = self.rows("SELECT arch, result, took FROM build WHERE builder = ? ORDER BY arch", (builder,))
+        for arch, result, took in rows:
+            found.setdefault(arch, {}).setdefault(result, []).append(took)
+        return found
+
+    def last_heard(self) -> dict[str, int]:
+        """When each builder last asked for a package or reported on one."""
+        rows = self.rows("SELECT builder, max(at) FROM event WHERE builder IS NOT NULL GROUP BY builder")
+        return dict(rows)
 
     def ends_by_day(self, since: int = 0) -> dict[str, dict[str, dict[str, int]]]:
         """How many builds ended well or failed on each day, by architecture and result."""

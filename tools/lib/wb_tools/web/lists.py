@@ -1,0 +1,238 @@
+"""What stands on the pages of an architecture, a state and a builder, and on that of all events."""
+import calendar
+import re
+from collections.abc import Iterator, Sequence
+from typing import Any
+
+from wb_tools.answers import HELD, STATES
+from wb_tools.index.asking import Index, median_of
+from wb_tools.web.charts import bar
+from wb_tools.web.offices import Fault
+from wb_tools.web.pages import (
+    ARCH, BUILDER, BUILDS, EVENTS, PACKAGE, STATE, Page, build_row, event_row, record_row,
+)
+from wb_tools.web.settings import Suite
+from wb_tools.web.tables import ROWS, Column, Order, Row, listed, order_of, sort, table
+from wb_tools.web.visit import Visit
+
+FILTERS = ("source", "arch", "builder", "by", "command")  # columns by which /history chooses
+SORTED = {"at": "id", "started": "id", "build": "version"}  # columns of an index by which others are sorted
+
+
+# ---- an architecture
+
+
+def arch(visit: Visit, name: str) -> Page:
+    """How many packages an architecture has in each state, of each suite."""
+    suites = []
+    for suite in visit.suites():
+        with visit.of(suite):
+            found = visit.ask(suite, "summary", name) if name in visit.known(suite).archs else None
+            if found:
+                visit.mind_lag(suite, found["accepted"])
+                suites.append({"suite": suite.name, "bar": bar(found["counts"])}
+                              | {"states": states_table(visit, suite, name, found["counts"])})
+    status = visit.status(bool(suites))
+    return {"template": "arch.html", "title": name, "status": status, "arch": name, "suites": suites}
+
+
+def states_table(visit: Visit, suite: Suite, name: str, counts: dict[str, int]) -> Row:
+    rows = [{"suite": suite.name, "arch": name, "state": state, "count": counts[state]} for state in STATES]
+    columns, caption = [STATE, Column("count", "Packages", "number")], f"Packages of {suite.name} in each state"
+    return listed(caption, columns, rows, visit.args, "", f"{suite.name}-")
+
+
+def state(visit: Visit, arch_name: str, name: str) -> Page:
+    """The records of a state, with their places if it is the queue."""
+    page: Page = {"template": "state.html", "title": f"{name} on {arch_name}", "arch": arch_name, "state": name}
+    page |= {"q": visit.args.get("q", ""), "suite": None, "suites": [], "records": None}
+    having = [suite for suite in visit.settings.suites if arch_name in visit.known(suite).archs]
+    suite = next((one for one in having if one in visit.suites()), None)
+    if suite and name in STATES:
+        page |= {"suite": suite.name, "suites": [one.name for one in having] if visit.is_of_several else []}
+        with visit.of(suite):
+            visit.ask_accepted(suite)
+            found = visit.ask(suite, "by-state", arch_name, name)
+            if found:
+                page["records"] = records_table(visit, suite, arch_name, name, found["records"])
+    return page | {"status": visit.status(page["records"] is not None)}
+
+
+def records_table(visit: Visit, suite: Suite, arch_name: str, name: str, found: list[dict[str, Any]]) -> Row:
+    """Records as a table; only those that are shown are looked at closely."""
+    columns = columns_of(name)
+    chosen = [one for one in found if has_text(one, visit.args.get("q", ""))]
+    rows = [row_of(suite, one) for one in chosen]
+    if name == "Needs-Build":
+        add_places(visit, suite, arch_name, rows)
+    order = order_of(visit.args, columns, columns[0].key)
+    return shown_of(visit, f"{name} on {arch_name}", columns, rows, order)
+
+
+def columns_of(name: str) -> list[Column]:
+    """The columns of the records of a state."""
+    return [
+        *([Column("place", "Place", "number")] if name == "Needs-Build" else []), PACKAGE,
+        Column("build", "Version", "version"), Column("since", "Since", "since"), *([BUILDER] if name in HELD else []),
+        *([Column("waits", "Waits for", "waits")] if name == "Dep-Wait" else []),
+        Column("priority", "Build priority", "number"), Column("note", "Note", "note"),
+    ]
+
+
+def row_of(suite: Suite, found: dict[str, Any]) -> Row:
+    """What a record is sorted by, before it is looked at closely."""
+    row = {key: found.get(key) for key in ("source", "arch", "state", "build", "waits", "take")}
+    row |= {"suite": suite.name, "builder": found.get("holder"), "priority": found.get("build_priority") or None}
+    return row | {"note": found.get("note") or found.get("message"), "found": found, "of": suite}
+
+
+def shown_of(
+    visit: Visit, caption: str, columns: Sequence[Column], rows: list[Row], order: Order, name: str = ""
+) -> Row:
+    """A page of rows of records; those alone are looked at closely, unless they are sorted by time."""
+    if order.key == "since":
+        add_times(visit, rows)
+    full = []
+    for row in sort(rows, order)[order.offset : order.offset + ROWS]:
+        full.append(record_row(visit, row["of"], visit.record(row["of"], row["found"])) | {"place": row.get("place")})
+    return table(caption, columns, full, len(rows), order, visit.args, name)
+
+
+def has_text(found: dict[str, Any], text: str) -> bool:
+    """Whether a record has a text in its name, its version, its note or what it waits for."""
+    places = (found.get(key) for key in ("source", "build", "note", "message", "waits", "holder"))
+    return not text or any(isinstance(place, str) and text.casefold() in place.casefold() for place in places)
+
+
+def add_places(visit: Visit, suite: Suite, arch_name: str, rows: list[Row]) -> None:
+    found = visit.ask(suite, "queue", arch_name)
+    places = {one.get("source"): at for at, one in enumerate(found["queue"], 1)} if found else {}
+    for row in rows:
+        row["place"] = places.get(row["source"])
+
+
+def add_times(visit: Visit, rows: list[Row]) -> None:
+    """Adds to rows of records since when each is in its state."""
+    groups: dict[tuple[Suite, str, str], dict[str, int | None]] = {}
+    for row in rows:
+        groups.setdefault((row["of"], str(row["arch"]), str(row["state"])), {})[str(row["source"])] = row["take"]
+    for (suite, arch_name, name), takes in groups.items():
+        index = visit.index(suite)
+        times = index.since_each(arch_name, name, takes) if index else {}
+        for row in (row for row in rows if (row["of"], row["arch"], row["state"]) == (suite, arch_name, name)):
+            row["since"] = visit.time_since(times.get(str(row["source"])))
+
+
+# ---- a builder
+
+
+FIGURES = (("taken", "Taken"), ("built", "Built"), ("failed", "Failed"), ("waited", "Waited"), ("put_back", "Put back"),
+           ("other", "Other"))
+
+
+def builder(visit: Visit, name: str) -> Page:
+    """What a builder holds and what became of what it built."""
+    held: list[Row] = []
+    figures: list[Row] = []
+    is_known = False
+    for suite in visit.suites():
+        with visit.of(suite):
+            found = visit.ask(suite, "mine", name)
+            visit.ask_accepted(suite)
+            held += [row_of(suite, one) for one in found["records"]] if found else []
+            is_known = is_known or found is not None or name in visit.known(suite).builders
+        with visit.of(suite):
+            index = visit.index(suite)
+            figures += figure_rows(index, suite, name) if index else []
+    columns = [ARCH, *(Column(key, head, "number") for key, head in FIGURES)]
+    columns += [Column("median", "Median", "span"), Column("longest", "Longest", "span")]
+    return {
+        "template": "builder.html", "title": name, "name": name, "held": held_table(visit, held),
+        "status": visit.status(is_known or bool(figures)), "is_shown": bool(figures),
+        "figures": listed("What became of its builds", visit.columns(*columns), figures, visit.args, "", "f-"),
+        "builds": builds_table(visit, name),
+    }
+
+
+def held_table(visit: Visit, rows: list[Row]) -> Row:
+    """What a builder holds, what was handed out last first."""
+    columns = visit.columns(
+        PACKAGE, ARCH, STATE, Column("build", "Version", "version"), Column("since", "Since", "since"),
+        Column("take", "Take", "number"),
+    )
+    order = order_of(visit.args, columns, "-take", "h-")
+    try:
+        return shown_of(visit, "What it holds", columns, rows, order, "h-")
+    except Fault as fault:
+        visit.faults.append(fault)
+        visit.heard.clear()
+        return table("What it holds", columns, [], 0, order, visit.args, "h-")
+
+
+def figure_rows(index: Index, suite: Suite, name: str) -> Iterator[Row]:
+    """How many builds ended in each way, and how long those took that ended well."""
+    for arch_name, results in index.results_of(name).items():
+        took = [seconds for seconds in results.get("built", []) if seconds is not None]
+        row = {"suite": suite.name, "arch": arch_name, "taken": sum(map(len, results.values()))}
+        row |= {result: len(results.get(result, [])) for result, _ in FIGURES[1:]}
+        yield row | {"median": median_of(took), "longest": max(took, default=None)}
+
+
+def in_order(order: Order) -> str:
+    key = SORTED.get(order.key, order.key)
+    down = " DESC" if order.is_down else ""
+    return f"{key}{down}" if key == "id" else f"{key} IS NULL, {key}{down}, id DESC"
+
+
+def builds_table(visit: Visit, name: str) -> Row:
+    columns = [one for one in (PACKAGE, *BUILDS) if one.key not in ("builder", "log")]
+    order = order_of(visit.args, columns, "-started")
+    rows, total = [], 0
+    for suite in visit.suites():
+        with visit.of(suite):
+            index = visit.index(suite)
+            if index:
+                total += index.count("build", "builder = ?", (name,))
+                more = f"ORDER BY {in_order(order)} LIMIT {order.offset + ROWS}"
+                rows += [build_row(visit, suite, build) for build in index.builds(more, builder=name)]
+    return table("Builds", visit.columns(*columns), sort(rows, order)[order.offset : order.offset + ROWS], total, order,
+                 visit.args)
+
+
+# ---- all events
+
+
+def history(visit: Visit) -> Page:
+    """The last events of all, by package, architecture, builder, who gave the command, command and day."""
+    columns = [EVENTS[0], PACKAGE, *EVENTS[1:]]
+    order = order_of(visit.args, columns, "-at")
+    condition, values = chosen(visit)
+    rows, total = [], 0
+    for suite in visit.suites():
+        with visit.of(suite):
+            visit.ask_accepted(suite)
+        with visit.of(suite):
+            index = visit.index(suite)
+            if index:
+                total += index.count("event", condition, values)
+                found = index.latest(in_order(order), order.offset + ROWS, 0, condition, values)
+                rows += [event_row(suite, event) for event in found]
+    shown = (sort(rows, order) if visit.is_of_several else rows)[order.offset : order.offset + ROWS]
+    is_kept = any(visit.indexes.values())
+    return {
+        "template": "history.html", "title": "History", "status": 200 if is_kept else 503,
+        "chosen": {key: visit.args.get(key, "") for key in (*FILTERS, "day")}, "is_kept": is_kept,
+        "events": table("Events, the last first", visit.columns(*columns), shown, total, order, visit.args),
+    }
+
+
+def chosen(visit: Visit) -> tuple[str, list[object]]:
+    """The condition that the address of /history asks for."""
+    given = {key: visit.args[key] for key in FILTERS if visit.args.get(key)}
+    parts, values = [f"{key} = ?" for key in given], list[object](given.values())
+    day = re.fullmatch(r"(\d{4})-(\d\d)-(\d\d)", visit.args.get("day", ""))
+    if day and 1 <= int(day[2]) <= 12 and 1 <= int(day[3]) <= 31 and int(day[1]) >= 1970:
+        begin = calendar.timegm((int(day[1]), int(day[2]), int(day[3]), 0, 0, 0))
+        parts.append("at >= ? AND at < ?")
+        values += [begin, begin + 86400]
+    return " AND ".join(["1", *parts]), values

@@ -1,0 +1,89 @@
+"""Asks offices for a page of the site, within the time that the page has."""
+import http.client
+import json
+import time
+from dataclasses import dataclass
+from typing import Any
+
+from wb_tools.answers import STATES, Record, body_of, made, path_of
+from wb_tools.lists import Refused
+from wb_tools.web.settings import Suite
+
+STOPPED, SLOW, ODD = 503, 504, 502
+
+
+class Fault(Exception):
+    """Why an office gives no answer that can be shown, and the status of a page that has nothing else."""
+
+    def __init__(self, suite: Suite, status: int, why: str) -> None:
+        super().__init__(f"{suite.name}: {why}")
+        self.status = status
+
+
+@dataclass(frozen=True)
+class Known:
+    """What an office has been told of: its architectures and its builders."""
+
+    archs: tuple[str, ...]
+    builders: tuple[str, ...]
+
+
+class Asker:
+    """Asks for one page. An office that failed once is not asked again for it."""
+
+    def __init__(self, wait: float) -> None:
+        self.wait, self.end = wait, time.monotonic() + wait
+        self.faults: dict[str, Fault] = {}
+
+    def known(self, suite: Suite) -> Known:
+        """The architectures and builders of an office, which the settings name."""
+        return Known(suite.archs, suite.builders)
+
+    def ask(self, suite: Suite, query: str, *words: str) -> dict[str, Any] | None:
+        """The object that an office answers to a query, or none if it refuses it."""
+        if suite.name in self.faults:
+            raise self.faults[suite.name]
+        try:
+            return self.answered(suite, query, words)
+        except Fault as fault:
+            self.faults[suite.name] = fault
+            raise
+
+    def answered(self, suite: Suite, query: str, words: tuple[str, ...]) -> dict[str, Any] | None:
+        left = self.end - time.monotonic()
+        try:
+            if left <= 0:
+                raise TimeoutError
+            found = json.loads(body_of(suite.url, path_of(query, words), left))
+        except TimeoutError:
+            raise Fault(suite, SLOW, f"the office does not answer within {self.wait:g} seconds") from None
+        except OSError as why:
+            raise Fault(suite, STOPPED, f"the office does not answer: {why.strerror or why}") from None
+        except (http.client.HTTPException, ValueError, RecursionError):
+            raise Fault(suite, ODD, f"this is no answer of an office to {query}") from None
+        if not isinstance(found, dict) or "fault" in found or "http" in found:
+            raise Fault(suite, ODD, f"the office answers {json.dumps(found)[:200]} to {query}")
+        if found.get("refused") in ("Memory", "Store", "Closed"):
+            raise Fault(suite, STOPPED, f"the office answers {found['refused']}")
+        return None if "refused" in found else self.checked(suite, query, found)
+
+    def checked(self, suite: Suite, query: str, found: dict[str, Any]) -> dict[str, Any]:
+        """An answer that has what a page shows of it; the records of a long list are checked once they are shown."""
+        lists, texts = {"queue": "queue", "by-state": "records", "mine": "records"}, {"depends": "depends"}
+        key = lists.get(query)
+        counts = found.get("counts")
+        is_good = not key or isinstance(found.get(key), list) and all(type(one) is dict for one in found[key])
+        if query == "summary":
+            is_good = isinstance(counts, dict) and all(type(counts.get(state)) is int for state in STATES)
+            is_good = is_good and type(found.get("accepted")) is int
+        if not is_good or query in texts and not isinstance(found.get("depends"), (str, type(None))):
+            raise Fault(suite, ODD, f"this is no answer of an office to {query}")
+        return found
+
+    def record(self, suite: Suite, found: dict[str, Any]) -> Record:
+        """A record, if it has the form of one."""
+        try:
+            record: Record = made(Record, found)
+            return record
+        except Refused:
+            raise Fault(suite, ODD, "this is no record of an office") from None

@@ -1,0 +1,401 @@
+#!/usr/bin/env python3
+"""Tests of the site (tools/bin/wb-web) over offices that the program serves, and over stand-ins: what stands on each
+page and in its JSON, how lists are sorted and parted, what is said if an office or a history is missing, slow or
+behind, that texts stay texts, and what each answer says of itself; and in a browser that no page is wider than a
+screen.
+
+    tools/tests/test_web.py [NAME..]     these tests, or all
+
+From the environment: WB is the program, ./wb of this repository where it is not set. Flask and waitress have to be
+installed, and for the test in a browser chromium: what lacks them is left out. All that is wanted was written by hand.
+"""
+import json
+import re
+import subprocess
+import sys
+import time
+import xml.etree.ElementTree as ElementTree
+
+from harness import BIN, ROOT, expect, expect_none, free_port, main
+from look_runs import in_browser
+from test_history import record
+from test_page import DARK, LIGHT
+from web_runs import Site, interpreter, odd_office, office, silent_office, update
+
+ARCHS = ["add-arch amd64 linux amd64", "add-arch arm64 linux arm64", "add-builder b1 amd64", "add-builder a1 arm64"]
+LONG = "l" + "o" * 198 + "g"
+WAITS = "libfoo-dev (>= 2), bar | baz-dev"
+ODD = '<script>alert(1)</script> "both" \'quotes\' &amp; \u202eturned \x1b[31m'
+SOURCES = "Package: {}\nVersion: {}\nArchitecture: any\nBuild-Depends: {}\n\n"
+PATHS = ["/", "/package/hello", "/arch/amd64", "/arch/amd64/Failed", "/builder/b1", "/history", "/?q=hello"]
+PATHS.append("/?q=hello+zlib")
+MANY = 250  # packages of a list with three pages
+WIDTHS = (320, 390, 768, 1280)
+
+
+def lines_of_day():
+    """Two packages on two architectures: one builds and failed elsewhere, one waits; and one with odd texts."""
+    return [
+        *ARCHS, "merge Sources amd64=Packages arm64=Packages", "next amd64 b1", "next arm64 a1", "built 1",
+        "attempted 2 cc died", "give-back arm64 hello 1.0-1", "next arm64 a1", f"waits 3 {WAITS}",
+        f"fail amd64 {LONG} 1 {ODD}", "next amd64 b1",
+    ]
+
+
+def day(folder):
+    """An office with the lines above, and the settings of a site over it."""
+    texts = [("hello", "1.0-1", "debhelper"), (LONG, "1", "cmake"), ("zlib", "1:1.3-1", "tcl <script>")]
+    (folder / "Sources").write_text("".join(SOURCES.format(*one) for one in texts))
+    (folder / "Packages").write_text("")
+    return office(folder, lines_of_day())
+
+
+def settings(folder, port, **others):
+    given = {"SUITES": f"sid={port}", "ARCHS": "sid=amd64,arm64", "INDEXES": f"sid={folder}/office.journal.index"}
+    given |= {"LOG": "https://logs.example.org/{source}_{build}_{arch}", "BUILDERS": "sid=b1,a1,quiet"}
+    given |= {"TRACKER": "https://tracker.example.org/{source}", "BUGS": "https://bugs.example.org/src:{source}"}
+    return given | others
+
+
+def of_day(test):
+    """A test of the site over the office of the day."""
+
+    def tried(folder):
+        with day(folder) as served, Site(folder, **settings(folder, served.port)) as site:
+            return test(site)
+
+    tried.__name__ = test.__name__
+    return tried
+
+
+# ---- what stands on pages
+
+
+@of_day
+def shows_a_package(site):
+    """Where it stands and since when, its builds with their logs, what it needs, its history, and links elsewhere."""
+    page = site.page("/package/hello")
+    amd64, arm64 = page.tables["Where it stands"]
+    expect((amd64["State"], amd64["Builder"], amd64["Version"]) == ("Built", "b1", "1.0-1"), f"{amd64}")
+    expect(re.match(r"\d{4}-\d\d-\d\d \d\d:\d\d ", amd64["Since"]), f"since when: {amd64}")
+    expect((arm64["State"], arm64["Waits for"]) == ("Dep-Wait", WAITS), f"{arm64}")
+    expect(page.links["libfoo-dev"] == "/?q=libfoo-dev" and page.links["baz-dev"] == "/?q=baz-dev", f"{page.links}")
+    met = [(row["Architecture"], row["Result"], row["Text"]) for row in page.tables["Builds"]]
+    wanted = [("amd64", "built", ""), ("arm64", "failed", "cc died"), ("arm64", "waited", WAITS)]
+    expect(sorted(met) == wanted, f"{met}")
+    expect(page.links["log of hello 1.0-1 on amd64"] == "https://logs.example.org/hello_1.0-1_amd64", f"{page.links}")
+    expect(page.links["Tracker"] == "https://tracker.example.org/hello", f"{page.links}")
+    expect(page.links["Bugs"] == "https://bugs.example.org/src:hello", f"{page.links}")
+    expect("What it needs to be built amd64, arm64 debhelper" in page.text, page.text)
+    commands = sorted(row["Command"] for row in page.tables["History"])
+    expect(commands == ["attempted", "built", "give-back", "next", "next", "next", "waits"], f"{commands}")
+    row = site.page("/package/zlib").tables["Where it stands"][1]
+    expect((row["State"], row["Place"]) == ("Needs-Build", "2"), f"{row}")
+    found = site.json("/package/hello.json")["records"]["rows"]
+    met = [(one["arch"], one["state"], one["take"], one["waits"]) for one in found]
+    expect(met == [("amd64", "Built", 1, ""), ("arm64", "Dep-Wait", None, WAITS)], f"{met}")
+    merged = site.json("/package/zlib.json")["records"]["rows"][1]["since"]
+    expect(found[0]["since"]["is_exact"] and not merged["is_exact"], "what a merge moved without a name is guessed")
+
+
+@of_day
+def shows_where_all_stands(site):
+    """Counts and a bar of each architecture, builds of each day, what has waited longest, and silent builders."""
+    page = site.page("/")
+    row = page.tables["Packages in each state"][0]
+    states = {"Built": "1", "Building": "1", "Failed": "1", "Needs-Build": "0", "Dep-Wait": "0"}
+    expect({key: row[key] for key in states} == states and row["Architecture"] == "amd64", f"{row}")
+    expect('aria-label="Building 1, Built 1, Failed 1"' in page.source, "the bar")
+    rows = page.tables["Built and failed on each of the last 28 days"]
+    figures = [(row["Architecture"], row["Built"], row["Failed"]) for row in rows]
+    expect(figures == [("amd64", "1", "0"), ("arm64", "0", "1")], f"{figures}")
+    expect("1 built and 0 failed in 28 days" in page.source, "the chart")
+    silent = page.tables["Builders without a word for 24 hours"]
+    expect([row["Builder"] for row in silent] == ["quiet"], f"silent builders: {silent}")
+    found = site.json("/index.json")
+    expect([row["counts"]["Built"] for row in found["archs"]["rows"]] == [1, 0], f"{found['archs']}")
+    expect(found["days"]["rows"][0]["days"][-1]["built"] == 1, f"{found['days']}")
+
+
+@of_day
+def shows_a_builder(site):
+    """What it holds, and what became of what it built."""
+    page = site.page("/builder/a1")
+    expect("What it holds: nothing." in page.text, page.text)
+    [row] = page.tables["What became of its builds"]
+    expect([row[key] for key in ("Taken", "Built", "Failed", "Waited")] == ["2", "0", "1", "1"], f"{row}")
+    expect([row["Package"] for row in page.tables["Builds"]] == ["hello", "hello"], "its builds")
+    held = site.page("/builder/b1").tables["What it holds"]
+    expect([(row["Package"], row["State"]) for row in held] == [("zlib", "Building"), ("hello", "Built")], f"{held}")
+
+
+@of_day
+def finds_packages(site):
+    """One word in names and notes, with the package of that name first; several names at once, and those of which there
+    is no record."""
+    wanted = {
+        "hello": {"Package": "hello", "amd64": "Built", "arm64": "Dep-Wait"},
+        "Zli": {"Package": "zlib", "amd64": "Building", "arm64": "Needs-Build"},
+        "baz-dev": {"Package": "hello", "amd64": "Built", "arm64": "Dep-Wait", "Text": WAITS},
+        "looo": {"Package": LONG, "amd64": "Failed", "arm64": "Needs-Build"},
+    }
+    for word, row in wanted.items():
+        met = site.page(f"/?q={word}").tables[f"Packages with {word}"]
+        expect(met == [row], f"{word}: {met}")
+    [row] = site.page("/?q=QUOTES").tables["Packages with QUOTES"]
+    expect(row["Package"] == LONG and "'quotes'" in row["Text"], f"a word of a note: {row}")
+    page = site.page("/?q=zlib,+hello%0d%0anone+zlib")
+    rows = page.tables["2 of 3 packages"]
+    wanted = {"Package": "zlib", "amd64": "Building", "arm64": "Needs-Build"}
+    expect(rows[0] == wanted and "No office has a record of none." in page.text, f"{rows}")
+    expect("none." in site.page("/?q=nothing-of-it").text, "a word that is nowhere")
+
+
+@of_day
+def tells_what_happened(site):
+    """The last events first, chosen by package, architecture, builder, command and day; and the feeds."""
+    rows = site.page("/history").tables["Events, the last first"]
+    expect([row["Command"] for row in rows[:2]] == ["next", "fail"] and len(rows) == 9, f"{rows[:2]}")
+    for words, count in {"source=hello": 7, "arch=amd64": 4, "builder=a1": 4, "command=built": 1, "day=1999-01-01": 0,
+                         f"day={time.strftime('%Y-%m-%d', time.gmtime())}&source=zlib": 1, "by=nobody": 0}.items():
+        met = len(site.page(f"/history?{words}").tables.get("Events, the last first", []))
+        expect(met == count, f"{words}: {met} events")
+    for path, titles in {"/feed/package/zlib": ["zlib 1:1.3-1 on amd64: Building"],
+                         "/feed/arch/arm64": ["hello 1.0-1 on arm64: Build-Attempted"]}.items():
+        fields, text = site.ask(path)
+        feed = ElementTree.fromstring(text)
+        space = "{http://www.w3.org/2005/Atom}"
+        expect(fields["Content-Type"].startswith("application/atom+xml") and feed.tag == f"{space}feed", path)
+        expect([one.text for one in feed.iterfind(f"{space}entry/{space}title")] == titles, text)
+        expect(all(feed.find(f"{space}{name}") is not None for name in ("id", "updated", "author")), text)
+
+
+def sorts_and_parts_lists(folder):
+    """All of a list is reached by its pages, in the order that the address says; the queue in its own."""
+    lines = [*ARCHS, *(f"enter amd64 s{at:03} 1.0 optional {'libs' if at % 2 else 'games'}" for at in range(MANY))]
+    with office(folder, lines) as served, Site(folder, **settings(folder, served.port)) as site:
+        for words, key in (("sort=source", "Package"), ("sort=-source", "Package"), ("sort=place", "Place"),
+                           ("sort=since", "Package")):
+            pages = [site.page(f"/arch/amd64/Needs-Build?{words}&page={at}") for at in (1, 2, 3)]
+            rows = [row for page in pages for row in page.tables[f"Needs-Build on amd64: {MANY}"]]
+            expect(len({row["Package"] for row in rows}) == MANY == len(rows), f"{words}: rows are lost or twice there")
+            met = [int(row[key]) if key == "Place" else row[key] for row in rows]
+            expect(met == sorted(met, reverse="-" in words) or words == "sort=since", f"{words}: {met}")
+            expect({"Page 1", "Page 2", "Page 3"} <= pages[0].links.keys(), f"{pages[0].links}")
+        first = site.page("/arch/amd64/Needs-Build").tables[f"Needs-Build on amd64: {MANY}"][0]
+        expect((first["Place"], first["Package"]) == ("1", "s001"), f"{first}")
+        page = site.page("/arch/amd64/Needs-Build?q=s24&sort=-source")
+        met = [row["Package"] for row in page.tables["Needs-Build on amd64"]]
+        expect(met == [f"s24{at}" for at in range(9, -1, -1)], f"records with a word: {met}")
+        expect('aria-sort="descending"' in page.source and page.links["Package"] == "?q=s24&sort=source", "the head")
+        for words in ("page=0", "page=x", "page=99999999", "sort=what", "sort=--source", "page=4"):
+            site.page(f"/arch/amd64/Needs-Build?{words}")
+
+
+# ---- texts and answers
+
+
+@of_day
+def keeps_texts_texts(site):
+    """Markup, quotes, marks that turn writing round, control characters and long names are shown as they are."""
+    known = [f"/package/{LONG}", "/arch/amd64/Failed", "/history", "/?q=alert", f"/package/{LONG}.json"]
+    known += ["/feed/arch/amd64", "/?q=%3Cscript%3E&sort=%22%3E", "/history?source=%3Cscript%3E&day=%22"]
+    unknown = ["/package/%3Cscript%3E", "/builder/%3Cimg%20src=x%3E", "/arch/%22x/%3Cb%3E"]
+    for path in (*known, *unknown):
+        text = site.ask(path, 404 if path in unknown else 200)[1]
+        is_json = path.endswith(".json")
+        expect(is_json or not re.search("<script|<img|<b>", text), f"{path}: markup: {text[:300]}")
+        expect("\u202e" not in text and "\x1b" not in text, f"{path}: characters that a reader does not see")
+    page = site.page(f"/package/{LONG}")
+    note = page.tables["Where it stands"][0]["Note"]
+    expect(note == ODD.replace("\u202e", "\\u202e").replace("\x1b", "\\u001b"), note)
+    expect(LONG in page.text, "the long name")
+
+
+@of_day
+def says_what_its_answers_are(site):
+    """Each answer has a strict policy; no page has a script, a style of its own, or a link to another host but those of
+    the settings; nothing but GET and HEAD is answered."""
+    others = re.compile(r"https://(logs|tracker|bugs)\.example\.org/")
+    for path in (*PATHS, "/style.css", "/package/hello.json", "/feed/arch/arm64", "/nowhere", "/package/none"):
+        fields, text = site.ask(path, 404 if path in ("/nowhere", "/package/none") else 200)
+        policy = fields["Content-Security-Policy"]
+        expect("default-src 'none'" in policy and "unsafe" not in policy and "frame-ancestors 'none'" in policy, policy)
+        expect(fields["X-Content-Type-Options"] == "nosniff", f"{fields}")
+        expect(fields["Referrer-Policy"] == "no-referrer", f"{fields}")
+        expect("Set-Cookie" not in fields and "waitress" not in f"{fields}", f"{fields}")
+        if fields["Content-Type"].startswith("text/html"):
+            expect(not re.search(r"<script|<style|\sstyle=|\son[a-z]+=|javascript:", text), f"{path} has code in it")
+            links = re.findall(r'(?:href|src|action)="([^"]*)"', text)
+            expect_none(link for link in links if not (re.match("[/?#](?!/)", link) or others.match(link)))
+            expect(text.count("<caption>") == text.count("<table") and text.count("<h1>") == 1, f"{path}: its captions")
+            expect('<html lang="en">' in text and text.count('scope="col"') == text.count('role="columnheader"'), path)
+    expect(site.ask("/package/hello", method="HEAD")[1] == "", "HEAD")
+    for method in ("POST", "PUT", "DELETE"):
+        site.ask("/package/hello", 405, method)
+    site.ask("/?q=" + "x" * 9000, 414)
+
+
+@of_day
+def has_links_that_lead_somewhere(site):
+    """Each link of each page that is reached from the first one, but those elsewhere, has a page."""
+    seen, left = set(), ["/"]
+    while left and len(seen) < 400:
+        path = left.pop()
+        seen.add(path)
+        fields, text = site.ask(path)
+        if "html" in fields["Content-Type"]:
+            for link in re.findall(r'href="([^"]*)"', text):
+                whole = (path.partition("?")[0] + link if link.startswith("?") else link).replace("&amp;", "&")
+                if whole.startswith("/") and whole not in seen and "sort=" not in whole:
+                    left.append(whole)
+    return f"{len(seen)} pages"
+
+
+# ---- what is missing
+
+
+def says_what_is_missing(folder):
+    """A stopped office, a slow one, one that answers what it should not; a package, an architecture, a state and a
+    builder that are not known; each has its page and its status."""
+    with Site(folder, **settings(folder, free_port())) as site:
+        for path in (*(path for path in PATHS if path != "/history"), "/package/hello.json"):
+            expect("the office does not answer: Connection refused" in site.ask(path, 503)[1], path)
+    with day(folder) as served:
+        served.process.kill()
+        with Site(folder, **settings(folder, served.port)) as site:
+            expect(len(site.page("/package/hello", 503).tables["History"]) == 7, "a history without an office")
+            expect(len(site.page("/history").tables["Events, the last first"]) == 9, "all events without an office")
+            site.ask("/builder/b1", 503)
+    with silent_office() as port, Site(folder, **settings(folder, port, WAIT="1")) as site:
+        begun = time.monotonic()
+        expect("does not answer within 1 seconds" in site.page("/package/hello", 504).text, "a slow office")
+        expect(time.monotonic() - begun < 20, "the site is as slow as its office")
+    odd = json.dumps(record("hello", "Failed") | {"take": "x"}).encode()
+    for body in (b"{}", b"[]", b"<html>", b'{"http":"NoRoute"}', b'{"refused":"Store"}', b'{"counts":{}}', odd):
+        with odd_office(body) as port, Site(folder, **settings(folder, port)) as site:
+            status = 503 if b"Store" in body else 502
+            for path in ("/", "/package/hello", "/arch/amd64/Failed", "/builder/b1"):
+                expect("sid: " in site.page(path, status).text, f"{body}: {path}")
+    with day(folder) as served, Site(folder, **settings(folder, served.port)) as site:
+        unknown = ["/package/none", "/package/none.json", "/package/a/b", "/arch/sparc", "/arch/sparc/Failed"]
+        for path in (*unknown, "/arch/amd64/Broken", "/builder/none", "/what"):
+            site.ask(path, 404)
+        expect("No office and no history knows none." in site.page("/package/none", 404).text, "an unknown package")
+
+
+def shows_what_it_has(folder):
+    """Without an index, or with one that is behind, a page says so, and has all else; so it is if one of two offices
+    does not answer; and an empty office has no packages."""
+    with day(folder) as served:
+        with Site(folder, **settings(folder, served.port, INDEXES="sid=/nowhere/index")) as site:
+            page = site.page("/package/hello")
+            expect("sid: there is no history: No such file" in page.text, page.text)
+            expect("Since" not in page.tables["Where it stands"][0], "since when")
+            site.ask("/history", 503)
+        served.post("/v1/give-back", arch="amd64", source="hello", version="1.0-1")
+        two = {"SUITES": f"sid={served.port} old={free_port()}", "ARCHS": "sid=amd64,arm64 old=amd64"}
+        with Site(folder, **settings(folder, served.port, **two)) as site:
+            page = site.page("/package/hello")
+            for said in ("sid: the history ends 1 command ago", "old: the office does not answer"):
+                expect(said in page.text, page.text)
+            rows = page.tables["Where it stands"]
+            met = [(row["Suite"], row["State"]) for row in rows]
+            expect(met == [("sid", "Needs-Build"), ("sid", "Dep-Wait")], f"{met}")
+            expect(not rows[0]["Since"] and rows[1]["Since"], "the old history is taken for true")
+            expect(len(site.page("/").tables["Packages in each state"]) == 2, "the office that answers")
+            site.ask("/package/hello?suite=old", 503)
+    empty = folder / "empty"
+    empty.mkdir()
+    with office(empty, ARCHS) as served, Site(empty, **settings(empty, served.port)) as site:
+        expect(site.page("/").tables["Packages in each state"][0]["Installed"] == "0", "an empty office")
+        expect("none." in site.page("/arch/amd64/Failed").text and "none." in site.page("/history").text, "no lists")
+
+
+def follows_its_index(folder):
+    """What happens while the site serves stands on its pages once the index has it."""
+    with day(folder) as served, Site(folder, **settings(folder, served.port)) as site:
+        before = len(site.page("/history").tables["Events, the last first"])
+        line = json.loads((folder / "office.journal").read_text().splitlines()[-1])
+        line |= {"accepted": line["accepted"] + 1, "by": "porter"}
+        line["command"] = {"command": "fail", "arch": "amd64", "source": "zlib", "version": "1:1.3-1", "note": "no"}
+        with open(folder / "office.journal", "a", encoding="utf-8") as journal:
+            journal.write(json.dumps(line) + "\n")
+        update(folder)
+        rows = site.page("/history?by=porter").tables["Events, the last first"]
+        expect([(row["Package"], row["Command"], row["By"]) for row in rows] == [("zlib", "fail", "porter")], f"{rows}")
+        expect(len(site.page("/history").tables["Events, the last first"]) == before + 1, "all events")
+
+
+def takes_the_settings_that_it_says(folder):
+    """Others are refused with their place and status 2; a port that is in use ends it with 3."""
+    good = settings(folder, 8080)
+    wrong = [
+        {"SUITES": ""}, {"SUITES": "sid"}, {"SUITES": "sid=x"}, {"SUITES": "sid=1 sid=2"}, {"ARCHS": "sid=all"},
+        {"ARCHS": ""}, {"ARCHS": "sid=amd64 old=amd64"}, {"PORT": "0"}, {"WAIT": "x"}, {"LOG": "{source"},
+        {"LOG": "https://x/{0}"}, {"LOG": "https://x/{source.__class__}"}, {"TRACKER": "javascript:alert(1)"},
+        {"BUGS": "https://x/{arch}"}, {"LOG": "https://x/{source!r}"}, {"WHAT": "1"},
+    ]
+    for others in wrong:
+        (folder / "web.conf").write_text("".join(f'{key}="{value}"\n' for key, value in (good | others).items()))
+        done = subprocess.run([BIN / "wb-web", "--settings", folder / "web.conf"], capture_output=True, check=False)
+        said = done.stderr.decode()
+        expect(done.returncode == 2 and said.startswith("wb-web: ") and "Traceback" not in said, f"{others}: {said}")
+    with silent_office() as port:
+        (folder / "web.conf").write_text("".join(f'{key}="{value}"\n' for key, value in good.items()))
+        words = [interpreter(), BIN / "wb-web", "--settings", folder / "web.conf", "--port", str(port)]
+        done = subprocess.run(words, capture_output=True, timeout=30, check=False)
+        expect(done.returncode == 3 and b"in use" in done.stderr, f"{done}")
+    return f"{len(wrong)} settings"
+
+
+def lists_its_settings(folder):
+    """The help, the page of the manual and the settings of the package name the same settings."""
+    said = subprocess.run([BIN / "wb-web", "--help"], capture_output=True, text=True, check=True).stdout
+    page = (ROOT / "docs/wb-web.1").read_text(encoding="utf-8")
+    keys = set(re.findall("^#?([A-Z]+)=", (ROOT / "packaging/web.conf").read_text(encoding="utf-8"), re.M))
+    from wb_tools.web.settings import READERS
+
+    expect(keys == {key.upper() for key in READERS}, f"packaging/web.conf has {keys}")
+    for key in keys:
+        expect(re.search(rf"\b{key}\b", said) and re.search(rf"^\.B {key}$", page, re.M), f"{key} is not described")
+
+
+# ---- in a browser
+
+# How wide the page is, what stands out of it, and what tables and heads a reader of the screen is told.
+LOOK = """(page) => {
+  const cut = [...page.querySelectorAll("td, th, p, h1, h2, caption, li, a, input, button, svg")].filter((one) => {
+    const box = one.getBoundingClientRect();
+    const isHidden = one.closest(".skip, .hidden") || (one.closest("thead")?.getBoundingClientRect().width ?? 9) <= 1;
+    return box.width > 1 && !isHidden && (box.right > page.documentElement.clientWidth + 1 || box.left < -1);
+  }).map((one) => one.outerHTML.slice(0, 80));
+  const small = [...page.querySelectorAll("input, button")].filter((one) => one.getBoundingClientRect().height < 24);
+  return {wide: page.documentElement.scrollWidth, cut, small: small.length,
+    tables: page.querySelectorAll("[role=table] > caption").length,
+    named: [...page.querySelectorAll("input")].every((one) => one.type == "hidden" || one.labels.length)};
+}"""
+
+
+def fits_screens(folder):
+    """Nothing of a page is wider than the screen, in light and dark."""
+    with day(folder) as served, Site(folder, **settings(folder, served.port)) as site:
+        style = site.ask("/style.css")[1]
+        for at, path in enumerate((*PATHS, f"/package/{LONG}", "/nowhere")):
+            text = site.ask(path, 404 if path == "/nowhere" else 200)[1]
+            text = re.sub("<link rel=.stylesheet.[^>]*>", lambda _: f"<style>{style}</style>", text)
+            for width, met in zip(WIDTHS, in_browser(folder, text, WIDTHS, LOOK, (LIGHT, DARK)[at % 2]), strict=True):
+                amiss = met["cut"] or met["small"] or not met["named"] or met["wide"] > width
+                expect(not amiss and met["tables"] == text.count("<table"), f"{path} at {width}: {met}")
+    return f"{(len(PATHS) + 2) * len(WIDTHS)} screens"
+
+
+TESTS = [
+    shows_a_package, shows_where_all_stands, shows_a_builder, finds_packages, tells_what_happened,
+    sorts_and_parts_lists, keeps_texts_texts, says_what_its_answers_are, has_links_that_lead_somewhere,
+    says_what_is_missing, shows_what_it_has, follows_its_index, takes_the_settings_that_it_says, lists_its_settings,
+    fits_screens,
+]
+
+if __name__ == "__main__":
+    sys.exit(main(TESTS))
