@@ -19,8 +19,9 @@ import xml.etree.ElementTree as ElementTree
 from harness import BIN, ROOT, expect, expect_none, free_port, main
 from look_runs import in_browser
 from test_history import record
-from test_page import DARK, LIGHT
+from test_page import DARK, LIGHT, contrast
 from web_runs import Site, interpreter, odd_office, office, silent_office, update
+from wb_tools.style import STYLE
 
 ARCHS = ["add-arch amd64 linux amd64", "add-arch arm64 linux arm64", "add-builder b1 amd64", "add-builder a1 arm64"]
 LONG = "l" + "o" * 198 + "g"
@@ -390,11 +391,21 @@ def fits_screens(folder):
     return f"{(len(PATHS) + 2) * len(WIDTHS)} screens"
 
 
+def has_texts_that_are_seen():
+    """Texts and links differ by 4.5:1 also from the ground of heads, notes and fields, in light and dark."""
+    schemes = [dict(re.findall("--([a-z-]+): #([0-9a-f]+)", part)) for part in STYLE.split("@media", 2)[:2]]
+    for colors in schemes:
+        for name in ("text", "quiet", "link"):
+            for ground in ("back", "head"):
+                met = contrast(colors[name], colors[ground])
+                expect(met >= 4.5, f"{name} differs from {ground} by {met:.1f}")
+
+
 TESTS = [
     shows_a_package, shows_where_all_stands, shows_a_builder, finds_packages, tells_what_happened,
     sorts_and_parts_lists, keeps_texts_texts, says_what_its_answers_are, has_links_that_lead_somewhere,
     says_what_is_missing, shows_what_it_has, follows_its_index, takes_the_settings_that_it_says, lists_its_settings,
-    fits_screens,
+    fits_screens, has_texts_that_are_seen,
 ]
 
 if __name__ == "__main__":

@@ -90,5 +90,5 @@ def matrix(visit: Visit, names: Sequence[str], notes: Notes) -> list[Row]:
                 for name, row in rows.items():
                     found = visit.ask(suite, "item", arch, name)
                     if found:
-                        row[f"{suite.name}/{arch}"] = found.get("state")
+                        row[f"{suite.name}/{arch}"] = visit.record(suite, found).state
     return list(rows.values())
