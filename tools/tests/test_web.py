@@ -43,6 +43,15 @@ def lines_of_day():
     ]
 
 
+def lines_of_failure():
+    """A package that failed twice, and one that a porter failed before any build."""
+    return [
+        *ARCHS, "enter amd64 hello 1.0 optional devel", "enter amd64 zlib 2 optional devel", "next amd64 b1",
+        "attempted 1 cc died", "give-back amd64 hello 1.0", "next amd64 b1", "attempted 2 ld died",
+        "fail amd64 zlib 2 no",
+    ]
+
+
 def day(folder):
     """An office with the lines above, and the settings of a site over it."""
     texts = [("hello", "1.0-1", "debhelper"), (LONG, "1", "cmake"), ("zlib", "1:1.3-1", "tcl <script>")]
@@ -169,6 +178,16 @@ def tells_what_happened(site):
         expect(fields["Content-Type"].startswith("application/atom+xml") and feed.tag == f"{space}feed", path)
         expect([one.text for one in feed.iterfind(f"{space}entry/{space}title")] == titles, text)
         expect(all(feed.find(f"{space}{name}") is not None for name in ("id", "updated", "author")), text)
+
+
+def leads_to_the_logs_of_failures(folder):
+    """The lists of what failed have the log of each last build, and none of what was never built."""
+    with office(folder, lines_of_failure()) as served, Site(folder, **settings(folder, served.port)) as site:
+        page = site.page("/arch/amd64/Build-Attempted")
+        logs = [row["Log"] for row in page.tables["Build-Attempted on amd64"]]
+        expect(logs == ["log of hello 1.0 on amd64"], f"{logs}")
+        expect(page.links["log of hello 1.0 on amd64"] == "https://logs.example.org/hello_1.0_amd64", f"{page.links}")
+        expect("Log" not in site.page("/arch/amd64/Failed").tables["Failed on amd64"][0], "a log of no build")
 
 
 def sorts_and_parts_lists(folder):
@@ -403,7 +422,8 @@ def has_texts_that_are_seen():
 
 TESTS = [
     shows_a_package, shows_where_all_stands, shows_a_builder, finds_packages, tells_what_happened,
-    sorts_and_parts_lists, keeps_texts_texts, says_what_its_answers_are, has_links_that_lead_somewhere,
+    leads_to_the_logs_of_failures, sorts_and_parts_lists, keeps_texts_texts, says_what_its_answers_are,
+    has_links_that_lead_somewhere,
     says_what_is_missing, shows_what_it_has, follows_its_index, takes_the_settings_that_it_says, lists_its_settings,
     fits_screens, has_texts_that_are_seen,
 ]

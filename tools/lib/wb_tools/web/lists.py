@@ -9,13 +9,14 @@ from wb_tools.index.asking import Index, median_of
 from wb_tools.web.charts import bar
 from wb_tools.web.offices import Fault
 from wb_tools.web.pages import (
-    ARCH, BUILDER, BUILDS, EVENTS, PACKAGE, STATE, Page, build_row, event_row, record_row,
+    ARCH, BUILDER, BUILDS, EVENTS, PACKAGE, STATE, Page, build_row, event_row, log_of, record_row,
 )
 from wb_tools.web.settings import Suite
 from wb_tools.web.tables import ROWS, Column, Order, Row, listed, order_of, sort, table
 from wb_tools.web.visit import Visit
 
 FILTERS = ("source", "arch", "builder", "by", "command")  # columns by which /history chooses
+FAILURES = ("Build-Attempted", "Failed")  # states of which a porter wants to see the log
 SORTED = {"at": "id", "started": "id", "build": "version"}  # columns of an index by which others are sorted
 
 
@@ -75,7 +76,8 @@ def columns_of(name: str) -> list[Column]:
         *([Column("place", "Place", "number")] if name == "Needs-Build" else []), PACKAGE,
         Column("build", "Version", "version"), Column("since", "Since", "since"), *([BUILDER] if name in HELD else []),
         *([Column("waits", "Waits for", "waits")] if name == "Dep-Wait" else []),
-        Column("priority", "Build priority", "number"), Column("note", "Note", "note"),
+        *([Column("log", "Log", "log")] if name in FAILURES else []), Column("priority", "Build priority", "number"),
+        Column("note", "Note", "note"),
     ]
 
 
@@ -94,8 +96,16 @@ def shown_of(
         add_times(visit, rows)
     full = []
     for row in sort(rows, order)[order.offset : order.offset + ROWS]:
-        full.append(record_row(visit, row["of"], visit.record(row["of"], row["found"])) | {"place": row.get("place")})
+        one = record_row(visit, row["of"], visit.record(row["of"], row["found"]))
+        full.append(one | {"place": row.get("place"), "log": last_log(visit, row["of"], one)})
     return table(caption, columns, full, len(rows), order, visit.args, name)
+
+
+def last_log(visit: Visit, suite: Suite, row: Row) -> str | None:
+    """The address of the log of the last build of what failed."""
+    index = visit.index(suite) if row["state"] in FAILURES else None
+    builds = index.builds("ORDER BY id DESC LIMIT 1", source=row["source"], arch=row["arch"]) if index else iter(())
+    return next((log_of(visit, build) for build in builds if build.took is not None), None)
 
 
 def has_text(found: dict[str, Any], text: str) -> bool:
