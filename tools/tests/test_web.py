@@ -208,6 +208,15 @@ def sorts_and_parts_lists(folder):
         met = [row["Package"] for row in page.tables["Needs-Build on amd64"]]
         expect(met == [f"s24{at}" for at in range(9, -1, -1)], f"records with a word: {met}")
         expect('aria-sort="descending"' in page.source and page.links["Package"] == "?q=s24&sort=source", "the head")
+        served.post("/v1/next", arch="amd64", builder="b1")
+        for at in range(MANY - 1):
+            served.post("/v1/fail", arch="amd64", source=f"s{at:03}", version="1.0", note=f"no {at % 7}")
+        for words in ("", "sort=-source"):
+            rows = []
+            for at in (1, 2, 3):
+                found = site.json(f"/arch/amd64/Failed.json?page={at}&{words}")["records"]
+                rows += [row["source"] for row in found["rows"]]
+            expect(rows == sorted(rows, reverse=bool(words)) and len(rows) == MANY - 1, f"failures: {rows}")
         for words in ("page=0", "page=x", "page=99999999", "sort=what", "sort=--source", "page=4"):
             site.page(f"/arch/amd64/Needs-Build?{words}")
 
@@ -423,9 +432,8 @@ def has_texts_that_are_seen():
 TESTS = [
     shows_a_package, shows_where_all_stands, shows_a_builder, finds_packages, tells_what_happened,
     leads_to_the_logs_of_failures, sorts_and_parts_lists, keeps_texts_texts, says_what_its_answers_are,
-    has_links_that_lead_somewhere,
-    says_what_is_missing, shows_what_it_has, follows_its_index, takes_the_settings_that_it_says, lists_its_settings,
-    fits_screens, has_texts_that_are_seen,
+    has_links_that_lead_somewhere, says_what_is_missing, shows_what_it_has, follows_its_index,
+    takes_the_settings_that_it_says, lists_its_settings, fits_screens, has_texts_that_are_seen,
 ]
 
 if __name__ == "__main__":

@@ -61,13 +61,17 @@ def state(visit: Visit, arch_name: str, name: str) -> Page:
 
 def records_table(visit: Visit, suite: Suite, arch_name: str, name: str, found: list[dict[str, Any]]) -> Row:
     """Records as a table; only those that are shown are looked at closely."""
-    columns = columns_of(name)
-    chosen = [one for one in found if has_text(one, visit.args.get("q", ""))]
+    columns, caption, text = columns_of(name), f"{name} on {arch_name}", visit.args.get("q", "")
+    chosen = [one for one in found if has_text(one, text)] if text else found
+    order = order_of(visit.args, columns, columns[0].key)
+    if order.key == "source" and name != "Needs-Build":  # they come in the order of their names
+        part = (chosen[::-1] if order.is_down else chosen)[order.offset : order.offset + ROWS]
+        rows = closely(visit, [row_of(suite, one) for one in part])
+        return table(caption, columns, rows, len(chosen), order, visit.args)
     rows = [row_of(suite, one) for one in chosen]
     if name == "Needs-Build":
         add_places(visit, suite, arch_name, rows)
-    order = order_of(visit.args, columns, columns[0].key)
-    return shown_of(visit, f"{name} on {arch_name}", columns, rows, order)
+    return shown_of(visit, caption, columns, rows, order)
 
 
 def columns_of(name: str) -> list[Column]:
@@ -94,11 +98,17 @@ def shown_of(
     """A page of rows of records; those alone are looked at closely, unless they are sorted by time."""
     if order.key == "since":
         add_times(visit, rows)
-    full = []
-    for row in sort(rows, order)[order.offset : order.offset + ROWS]:
+    part = sort(rows, order)[order.offset : order.offset + ROWS]
+    return table(caption, columns, closely(visit, part), len(rows), order, visit.args, name)
+
+
+def closely(visit: Visit, rows: list[Row]) -> list[Row]:
+    """Rows of records, with all that is shown of them."""
+    found = []
+    for row in rows:
         one = record_row(visit, row["of"], visit.record(row["of"], row["found"]))
-        full.append(one | {"place": row.get("place"), "log": last_log(visit, row["of"], one)})
-    return table(caption, columns, full, len(rows), order, visit.args, name)
+        found.append(one | {"place": row.get("place"), "log": last_log(visit, row["of"], one)})
+    return found
 
 
 def last_log(visit: Visit, suite: Suite, row: Row) -> str | None:
