@@ -111,7 +111,7 @@ def have_settings_and_units_in_the_package(folder):
     expect([f"/var/lib/{place}" for place in places] == wanted, f"the folders are {places} and {wanted}")
     expect(unit.count("\n") == (units / "wb.service").read_text().count("\n"), "the units differ in more than these")
     expect(not (folder / "root/etc/systemd").exists(), "the package enables a unit")
-    for name in ("merge", "report", "page", "prune"):
+    for name in ("merge", "report", "page", "prune", "index"):
         service, timer = ((units / f"wb-{name}@.{kind}").read_text() for kind in ("service", "timer"))
         used = re.findall(r"\$\{?([A-Z]+)", service)
         expect(all(hasattr(settings, key.lower()) for key in used), f"wb-{name} uses {used}")
@@ -128,11 +128,12 @@ def have_units_that_can_be_verified(folder):
     root = folder / "root"
     call(["dpkg-deb", "-x", made.strip(), root])
     units = []
-    for unit in sorted((root / "usr/lib/systemd/system").glob("*@.*")):
+    place = root / "usr/lib/systemd/system"
+    for unit in [*sorted(place.glob("*@.*")), place / "wb-web.service"]:
         text = re.sub(r"/usr/(s?bin|share/wb)/([a-z]\S*)", lambda found: f'"{root}{found[0]}"', unit.read_text())
         units.append(folder / unit.name.replace("@", "@sid"))
         units[-1].write_text(text)
-    expect(len(units) == 9, f"the units are {units}")
+    expect(len(units) == 12, f"the units are {units}")
     _, noted = call(["systemd-analyze", "--man=no", "verify", *units])
     expect("wb" not in noted, f"it says {noted}")
     return None
