@@ -9,6 +9,7 @@ folder of its own.
 From the environment: WB is the program, crates/wb/out/wb of this repository where it is not set. lintian,
 systemd-analyze and man are called where they are installed.
 """
+import argparse
 import gzip
 import json
 import os
@@ -222,11 +223,12 @@ def page_of_history_has_each_question(_folder):
 
 
 def office_parser():
-    """The commands of tools/bin/office, each with its own options."""
+    """The commands of tools/bin/office, each with its own options, but for --dry-run, which each of them takes too."""
     below = next(action for action in office.parser()._actions if action.dest == "command")
+    shown = {name: [a for a in one._actions if a.help != argparse.SUPPRESS] for name, one in below.choices.items()}
     return {
-        name: sorted(o for a in one._actions for o in a.option_strings if o not in ("-h", "--help"))
-        for name, one in below.choices.items()
+        name: sorted(o for a in actions for o in a.option_strings if o not in ("-h", "--help"))
+        for name, actions in shown.items()
     }
 
 
