@@ -1,8 +1,9 @@
 //! The head of a request (RFC 9112, sections 2 to 5), read from a stream as far as it goes.
-ghost use Rattle.std.specs.Prelude.{◌≡◌, ℕ, ◌+◌, ◌<◌, ◌≤◌, length, take, drop, IfOk, OnErr, OnOk, true};
+ghost use Rattle.std.specs.Prelude.{◌≡◌, ℕ, ◌+◌, ◌<◌, ◌≤◌, length, take, drop, false, IfOk, OnErr, OnOk, true};
 ghost use Rattle.std.specs.Io.KnownBytes.{Consumes, IsAtEnd, Keeps};
 ghost use Rattle.wb_streams.specs.Streams.{Flags};
-ghost use Rattle.wb_streams.specs.Heads.{head_limit, is_failed_head, IsFront, TookHead};
+ghost use Rattle.httparse.specs.Grammar.{HasNoRequest, NeverHasRequest};
+ghost use Rattle.wb_streams.specs.Heads.{head_limit, is_failed_head, IsFront, IsUnfinished, TookHead};
 
 use crate::WatchedReader;
 use httparse::spans::{EMPTY_HEADER_SPAN, parse_request};
@@ -15,9 +16,12 @@ pub const HEAD_LIMIT: usize = 8192;
 /// The greatest number of fields of a head.
 pub const FIELD_LIMIT: usize = 32;
 
+/// More fields than any head of fewer than HEAD_LIMIT bytes has, since each takes three bytes.
+const ALL_FIELDS: usize = HEAD_LIMIT / 3;
+
 /// What the first bytes of a stream are.
 #[derive(Clone, Copy)]
-enum Front {
+pub enum Front {
     /// A head of this length, and what follows it.
     Whole(usize),
     /// No head yet.
@@ -43,7 +47,9 @@ pub enum HeadRead {
     Failed,
 }
 
-fn front_of(bytes: &[u8]) -> Front
+/// What the first bytes of a stream are, of which there may be any number.
+/// Source: RFC 9112, sections 2 to 5; the limit of fields is this project's own.
+pub fn front_of(bytes: &[u8]) -> Front
     ensures value { IsFront bytes.now result }
 {
     let mut fields = [EMPTY_HEADER_SPAN; FIELD_LIMIT];
@@ -52,6 +58,21 @@ fn front_of(bytes: &[u8]) -> Front
         Ok(Status::Partial) => Front::Unfinished,
         Err(Error::TooManyHeaders) => Front::Crowded,
         Err(_) => Front::Malformed,
+    }
+}
+
+/// Whether bytes, fewer than a head may have, are the front of a head of any number of fields, and not all of one.
+/// Source: RFC 9112, sections 2 to 5.
+pub fn is_unfinished(bytes: &[u8]) -> bool
+    requires { length bytes.now < head_limit }
+    ensures value { result ≡ true → IsUnfinished bytes.now }
+    ensures ended { result ≡ false → HasNoRequest bytes.now → NeverHasRequest bytes.now }
+{
+    let mut fields = [EMPTY_HEADER_SPAN; ALL_FIELDS];
+    match parse_request(bytes, &mut fields) {
+        Ok(Status::Complete(_)) => false,
+        Ok(Status::Partial) => true,
+        Err(_) => false,
     }
 }
 

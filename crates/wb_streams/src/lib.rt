@@ -16,7 +16,7 @@ pub use answer::write_answer;
 pub use body::{BodyRead, read_body};
 pub use fault::Fault;
 pub use fields::{content_length, has_field, is_from_browser};
-pub use head::{FIELD_LIMIT, HEAD_LIMIT, HeadRead, read_head};
+pub use head::{FIELD_LIMIT, Front, HEAD_LIMIT, HeadRead, front_of, is_unfinished, read_head};
 pub use line::{ByteRead, LINE_LIMIT, LineRead, read_byte, read_line, text_of, words_in};
 pub use watched::{WatchedReader, WatchedWriter};
 pub use write::write_line;

@@ -84,6 +84,14 @@ impl<W: Write + Drop> WatchedWriter<W> {
         }
     }
 
+    /// The writer inside, with what was written to it.
+    pub fn into_inner(self) -> W
+        ensures value { W.contents result ≡ self.bytes }
+    {
+        let WatchedWriter { inner, .. } = self;
+        inner
+    }
+
     /// Whether a write has failed so far.
     pub fn has_failed(&self) -> bool
         ensures value { result ≡ self.now.failed }
