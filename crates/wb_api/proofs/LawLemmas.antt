@@ -19,7 +19,7 @@ use Rattle.wb_api.specs.Routes.{and_then}
 use Rattle.wb_api.proofs.RequestLemmas.{HasManyFields-append, body_asked-cut, body_asked-whole}
 
 -- a head has a byte
-print_request-filled : (head : RequestHead) → 0 < length head.method → 0 < length (print_request head)
+pub print_request-filled : (head : RequestHead) → 0 < length head.method → 0 < length (print_request head)
 unfolding print_request
 print_request-filled head some = simp length-append (omega arith)
 
@@ -62,11 +62,11 @@ head_memory input head rest is (k, q, isk, takes) =
 
 -- ---- what follows a request
 
-IsHead-append : (input : List ℕ) (head : RequestHead) (rest more : List ℕ) → IsHead input head rest → IsHead (input ++ more) head (rest ++ more)
+pub IsHead-append : (input : List ℕ) (head : RequestHead) (rest more : List ℕ) → IsHead input head rest → IsHead (input ++ more) head (rest ++ more)
 IsHead-append input head rest more is = record { reads = ReadsRequest-append input head rest more is.reads; within = is.within; fields = is.fields }
 
 -- a body that came whole stays what it is
-body-more : (kind : CommandKind) (count : ℕ) (rest more : List ℕ) → count ≤ length rest → body_asked kind count (rest ++ more) ≡ body_asked kind count rest
+pub body-more : (kind : CommandKind) (count : ℕ) (rest more : List ℕ) → count ≤ length rest → body_asked kind count (rest ++ more) ≡ body_asked kind count rest
 body-more kind count rest more fits =
     body_asked-whole kind count (rest ++ more) (take count rest) (omega (arith, length-append rest more)) (sym (take-append-le count rest more fits))
     ∙ sym (body_asked-whole kind count rest (take count rest) fits refl)

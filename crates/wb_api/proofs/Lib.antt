@@ -1,4 +1,5 @@
 pub mod AcknowledgedLemmas
+pub mod ComingLemmas
 pub mod EncodingLemmas
 pub mod ExchangeLemmas
 pub mod KeyLemmas

@@ -180,11 +180,11 @@ means_head (Some l) (Some r) seen count head result p within at memory h =
     subst (λ x. Means x result) (sym p)
     (means_by (seen ++ r) head (drop count seen ++ r) result (IsHead-from seen r count head at within) (λ is. memory is head at) (h head at))
 
-NeverHasRequest-append : (xs ys : List ℕ) → NeverHasRequest xs → NeverHasRequest (xs ++ ys)
+pub NeverHasRequest-append : (xs ys : List ℕ) → NeverHasRequest xs → NeverHasRequest (xs ++ ys)
 NeverHasRequest-append xs ys never = λ more. subst HasNoRequest (sym (append_assoc xs ys more)) (never (ys ++ more))
 
 -- the first bytes of an input, of which some were seen
-front_of_seen : (seen left : List ℕ) → length seen ≤ head_limit → (more : List ℕ) × (take head_limit (seen ++ left) ≡ seen ++ more)
+pub front_of_seen : (seen left : List ℕ) → length seen ≤ head_limit → (more : List ℕ) × (take head_limit (seen ++ left) ≡ seen ++ more)
 front_of_seen seen left within =
     let size : head_limit ≡ length seen + (head_limit - length seen) = omega arith in
     (take (head_limit - length seen) left, ap (λ n. take n (seen ++ left)) size ∙ take-append-add seen left (head_limit - length seen))

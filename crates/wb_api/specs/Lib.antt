@@ -1,3 +1,4 @@
+pub mod Coming
 pub mod Commands
 pub mod Encoding
 pub mod Exchange

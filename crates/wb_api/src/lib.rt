@@ -4,6 +4,7 @@
 
 mod answer;
 mod ask;
+mod coming;
 mod command;
 mod encode;
 mod failure;
@@ -17,6 +18,7 @@ mod row;
 mod serve;
 mod status;
 
+pub use coming::{Coming, coming_of};
 pub use encode::reply_json;
 pub use fault::{file_fault_json, line_fault_json};
 pub use query::query_json;

@@ -38,7 +38,7 @@ pub enum Request {
 
 /// What a head asks for.
 #[derive(Drop)]
-enum Wanted {
+pub(crate) enum Wanted {
     Query(Query),
     /// A command, which a body of `length` bytes gives.
     Body { kind: CommandKind, length: usize },
@@ -138,7 +138,11 @@ fn wanted_from(
 }
 
 /// What the head at the front of the bytes asks for.
-fn wanted_of(alloc: Global, routes: &Routes, bytes: &[u8]) -> Result<Wanted, RequestError>
+pub(crate) fn wanted_of(
+    alloc: Global,
+    routes: &Routes,
+    bytes: &[u8],
+) -> Result<Wanted, RequestError>
     ensures value { (count : ℕ) (head : RequestHead) → IsHeadAt bytes.now count head
         → WantsOr result (wanted_of head) }
 {
