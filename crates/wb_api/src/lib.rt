@@ -25,5 +25,5 @@ pub use query::query_json;
 pub use refusal::{refusal_json, try_refusal_json};
 pub use request::{Received, Request, read_request};
 pub use route::Routes;
-pub use serve::{Served, serve_one};
+pub use serve::{Served, answer_of, serve_one};
 pub use status::status_of;

@@ -1,5 +1,5 @@
 //! One exchange: a request is read whole, the office answers it, and only then is the answer written.
-ghost use Rattle.std.specs.Prelude.{◌≡◌, ℕ, List, IfSome, IsOk, None, Some, false, true};
+ghost use Rattle.std.specs.Prelude.{◌≡◌, ℕ, List, [], IfSome, IsOk, None, Some, false, true};
 ghost use Rattle.std.specs.Cow.{cow_str_bytes};
 ghost use Rattle.wb_states.specs.Machine.{Machine};
 ghost use Rattle.wb_states.specs.declared.command.Command.{Command as AnyCommand};
@@ -159,4 +159,27 @@ pub fn serve_one<O: CarryOut, R: Read + Drop, W: Write + Drop>(
     ensures failed { Flags (fails_to_write result) writer.old writer.new }
 {
     exchange(alloc, routes, office, reader, writer)
+}
+
+/// Serves one exchange over the bytes of a request that has come, as `serve_one` does over a reader:
+/// how it ended, and the bytes of the answer. If there is no memory for all of these, it ended with a
+/// failed write, and they are a front.
+/// Source: RFC 9112, section 9.3, for one exchange; the rest is this project's own.
+pub fn answer_of<O: CarryOut>(
+    alloc: Global,
+    routes: &Routes,
+    office: &mut O,
+    request: &[u8],
+) -> (Served, Vec<u8>)
+    ensures clean { O.is_clean office.new → O.is_clean office.old }
+    ensures value { (received : AnyReceived) × Means request.now received
+        × (is_asked received ≡ false → office.new ≡ office.old)
+        × Leads O.is_clean O.is_closed O.stands_at O.leaves office.old office.new
+        (λ before after standing. Exchanges received before after standing
+        (Some []) (Some result.1.items) result.0) }
+{
+    let mut reader = WatchedReader::new(request);
+    let mut writer = WatchedWriter::new(Vec::new(alloc));
+    let served = serve_one(alloc, routes, office, &mut reader, &mut writer);
+    (served, writer.into_inner())
 }
