@@ -10,12 +10,12 @@ use Rattle.httparse.specs.Grammar.{HasNoRequest, NeverHasRequest, RequestHead, p
 use Rattle.httparse.specs.Spans.{name_and_value}
 use Rattle.httparse.proofs.GrammarLemmas.{ReadsRequest-append, request_unique}
 use Rattle.wb_streams.specs.Fields.{NameAndValue, body_limit, content_length, has_field, is_from_browser, is_same_number, length_stated, limited, values_of}
-use Rattle.wb_streams.specs.Heads.{HasManyFields, IsHeadAt, IsUnfinished, head_limit}
+use Rattle.wb_streams.specs.Heads.{HasManyFields, IsHeadAt, head_limit}
 use Rattle.wb_streams.specs.declared.fault.Fault.{Fault}
 use Rattle.wb_streams.specs.declared.fault.Fault.TheVariants.{BadLength, BodyTooLarge, FromBrowser, NoRoute, NotSupported, WrongMethod}
 use Rattle.wb_states.specs.declared.query.Query.{Query}
 use Rattle.wb_api.specs.Coming.{EndsAfter, IsSettled}
-use Rattle.wb_api.specs.Requests.{IsHead, IsRequestFront, Means, asked_by, body_length, command_wanted, query_wanted, wanted_by, wanted_from, wanted_of}
+use Rattle.wb_api.specs.Requests.{IsHead, IsRequestFront, Means, asked_by, body_length, command_wanted, query_wanted, wanted_by, wanted_of}
 use Rattle.wb_api.specs.Routes.{and_then, query_of, route_at}
 use Rattle.wb_api.specs.declared.coming.Coming.{Coming}
 use Rattle.wb_api.specs.declared.coming.Coming.TheVariants as coming

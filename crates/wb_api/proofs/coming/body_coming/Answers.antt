@@ -1,5 +1,5 @@
 -- No head asks for so large a body that the end of the request is no number.
-use Rattle.std.proofs.Common.{◌≡◌, ◌∙◌, ℕ, ◌+◌, ◌≤◌, Ok, ap, arith}
+use Rattle.std.proofs.Common.{◌≡◌, ◌∙◌, ◌+◌, ◌≤◌, Ok, ap, arith}
 use Rattle.std.proofs.Math.Nat.{min-eq_left}
 use Rattle.wb_api.specs.Requests.{body_length, wanted_of}
 use Rattle.wb_api.proofs.ComingLemmas.{wanted-limited}

@@ -1,5 +1,5 @@
 -- What is answered to the bytes of a request, which the reader and the writer keep.
-use Rattle.std.proofs.Common.{◌≡◌, ◌∙◌, ap, subst, sym, Some, [], IfSome}
+use Rattle.std.proofs.Common.{◌∙◌, ap, subst, sym, Some, [], IfSome}
 use Rattle.wb_step.specs.Offices.{Leads}
 use Rattle.wb_api.specs.Requests.{Means}
 use Rattle.wb_api.specs.Exchange.{Exchanges}
