@@ -39,7 +39,7 @@ use wb_streams::{WatchedReader, WatchedWriter};
 use wb_words::{Start, start_of};
 
 /// The program and the kit that it is proved with, for `wb --version`.
-const VERSION: &str = "wb 0.1.0, proved with rattle-kit-13b logic dac8208d650f15bf";
+const VERSION: &str = "wb 0.1.0, proved with rattle-kit-13f logic dac8208d650f15bf";
 
 /// Prints a message on standard error; one that cannot be printed is dropped.
 fn say(rt: &impl Eprint, message: Message<'_>) {
