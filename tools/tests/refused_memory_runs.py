@@ -1,25 +1,19 @@
 """Programs under the library of refuse_memory.c, and the files of an office as SQLite reads them, for
 tools/tests/test_refused_memory.py.
-
-From the environment: WB and TRIALS are the programs, those of crates/wb and crates/trials where they are not set, which
-are then built if need be.
 """
 import mmap
 import os
 import shutil
 import sqlite3
 import subprocess
-import sys
 import tempfile
-import threading
 import time
 from contextlib import closing
 from pathlib import Path
 
-ROOT = Path(__file__).resolve().parents[2]
-LIBRARY = Path(__file__).resolve().parent / "refuse_memory.c"
-STORES = ROOT / "tools" / "tests" / "stores"
-WAIT = 60  # seconds after which a program counts as one that does not answer
+from harness import HERE, WAIT, expect, program
+
+LIBRARY, STORES = HERE / "refuse_memory.c", HERE / "stores"
 TABLES = {
     "office": "id",
     "arch": "name",
@@ -32,63 +26,17 @@ TABLES_OF_1 = {"source_state": "arch, source"}
 FOLDER = "/dev/shm" if os.access("/dev/shm", os.W_OK) else None
 
 
-class Failure(Exception):
-    """Why a test failed."""
-
-
-def expect(holds, why):
-    if not holds:
-        raise Failure(why)
-
-
 # ---- the programs and the library
 
 
-def is_stale(program):
-    """Whether the program is missing, or older than a source of a crate on which it stands."""
-    if not program.exists():
-        return True
-    lines = (ROOT / "crates.txt").read_text(encoding="utf-8").splitlines()
-    line = next(line for line in lines if line.startswith(f"{program.name}:"))
-    folders = [
-        ROOT / "crates" / name / kind for name in line.replace(":", "").split() for kind in ("src", "specs", "proofs")
-    ]
-    made = program.stat().st_mtime
-    return any(
-        path.stat().st_mtime > made for folder in folders if folder.exists() for path in [folder, *folder.rglob("*")]
-    )
-
-
-def program_of(name):
-    """The path of the program of this name, which is built first if it is not current."""
-    if name.upper() in os.environ:
-        return os.path.abspath(os.environ[name.upper()])
-    found = ROOT / "crates" / name / "out" / name
-    if name == "wb":
-        subprocess.run([ROOT / "wb", "help"], stdin=subprocess.DEVNULL, stdout=subprocess.DEVNULL, check=True)
-    elif is_stale(found):
-        print(f"{Path(sys.argv[0]).name}: building {name}", file=sys.stderr)
-        subprocess.run(
-            ["rt", "run"], cwd=found.parent.parent, stdin=subprocess.DEVNULL, stdout=subprocess.DEVNULL, check=True
-        )
-    return str(found)
-
-
 class Tools:
-    """The programs, and the library."""
+    """The program, and the library."""
 
     def __init__(self, folder):
         expect(shutil.which("cc"), "there is no cc to build the library that refuses memory")
         self.library = str(Path(folder) / "refuse_memory.so")
         subprocess.run(["cc", "-O2", "-shared", "-fPIC", "-o", self.library, str(LIBRARY)], check=True)
-        self.wb = program_of("wb")
-        self.trials_path, self.lock = None, threading.Lock()
-
-    def trials(self):
-        """The program of the trials."""
-        with self.lock:
-            self.trials_path = self.trials_path or program_of("trials")
-        return self.trials_path
+        self.wb = str(program())
 
 
 class Run:

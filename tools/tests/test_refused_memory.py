@@ -18,9 +18,9 @@ those of a program that has read its pages. The lines of COLD, those over tables
 ends have a program for each refusal; of single commands, starts and ends the first requests, the last and some between
 are refused.
 
-From the environment: WB and TRIALS are the programs, those of crates/wb and crates/trials where they are not set, which
-are then built if need be; where EACH is set, each request is refused. It needs cc, and a C library with which a library
-can be put before it.
+From the environment: WB and TRIALS are the programs, those of crates/wb and crates/trials where they are not set, of
+which the second is then built if need be; where EACH is set, each request is refused. It needs cc, and a C library with
+which a library can be put before it.
 """
 import collections
 import itertools
@@ -38,8 +38,9 @@ sys.dont_write_bytecode = True
 import refused_memory_cases as cases  # noqa: E402
 import refused_trial_cases as trial_cases  # noqa: E402
 from refused_memory_cases import CLOSED, FILE_FAULT, IN_DOUBT, LINE_FAULT, MEMORY, MEMORY_FAULT, answered  # noqa: E402
-from refused_memory_runs import TABLES, TABLES_OF_1, WAIT, Failure, Kept, Run, Tools  # noqa: E402
-from refused_memory_runs import bytes_in, expect, fresh, make_database, rows_in, run_all  # noqa: E402
+from harness import WAIT, Failure, expect, trial_program  # noqa: E402
+from refused_memory_runs import TABLES, TABLES_OF_1, Kept, Run, Tools  # noqa: E402
+from refused_memory_runs import bytes_in, fresh, make_database, rows_in, run_all  # noqa: E402
 
 # Of the requests of a start so many of the first and of the last are refused, and so many between.
 ENDS, BETWEEN = 20, 40
@@ -558,7 +559,7 @@ def try_trial(tools, case):
             (folder / file).write_text(text, encoding="utf-8")
         if case.sql:
             make_database(folder / "database", case.sql)
-        with Run(tools, folder, [tools.trials()]) as run:
+        with Run(tools, folder, [trial_program()]) as run:
 
             def shown(line):
                 """What the program shows of a trial, what it counted, and whether a request was refused."""
