@@ -681,7 +681,7 @@ OPENINGS = {
         ("office", 1, 2, 1, 4),
         ("arch", "amd64", "linux", "amd64"),
         ("builder", "b1", "amd64"),
-        ("source_record", "amd64", "hello", 1, "1.0", "optional", "devel", 0, 0, "b1", 1, "", None, "", "", 0, 348263),
+        ("source_record", "amd64", "hello", 1, "1.0", "optional", "devel", 0, 0, "b1", 1, "", "", "", "", 0, 348263),
     ]),
     "opening-of-format-2": ([], "format-2.sql", None, None),
 }  # fmt: skip

@@ -119,7 +119,7 @@ def over(work, before, ample, refused):
 def upgrade():
     """An opening of a file of format 1, with the tables of both formats as they stand then."""
     both = ['arch "amd64" "linux" "amd64"', 'builder "b1" "amd64"']
-    hello = '"amd64" "hello" 1 "1.0" "optional" "devel" 0 0 "b1" 1 "" null "" ""'
+    hello = '"amd64" "hello" 1 "1.0" "optional" "devel" 0 0 "b1" 1 "" "" "" ""'
     before = ["office 1 1 1 4", *both, "none source_record", f"source_state {hello} 263"]
     after = ["office 1 2 1 4", *both, f"source_record {hello} 0 348263"]
     line = f"open {NEVER} {NEVER} kept kept unopened"

@@ -28,6 +28,9 @@ ALL_OLD = (
 )
 ALL_NEW = ALL_OLD.replace("source_state", "source_record").replace("rank", f"rank - {RAISED}")
 KILLS, RECORDS = 100, 1000
+# A source package that a merge listed with build dependencies that cannot be read, and that an operator failed.
+UNREAD = "INSERT INTO source_state VALUES('amd64', 'gcc', 7, '12-1', 'optional', 'devel', 0, 0, NULL, NULL, '', NULL, "
+UNREAD += "'no space', '', 263)"
 
 
 def made(folder, *statements, text=FIRST):
@@ -42,7 +45,7 @@ def many(count):
     after = f"WITH RECURSIVE n(i) AS (SELECT 1 UNION ALL SELECT i + 1 FROM n WHERE i < {count})"
     return (
         f"INSERT INTO source_state {after} SELECT 'amd64', printf('p%05d', i), 0, '1.0-1', 'optional', 'devel', 0, 0, "
-        "NULL, NULL, '', NULL, '', '', 263 FROM n"
+        "NULL, NULL, '', '', '', '', 263 FROM n"
     )
 
 
@@ -68,23 +71,25 @@ def held(folder):
 
 
 def brings_over_the_first_format(folder):
-    """The first run that may write brings the store over: the record has its hold, its take number and a rank that is
-    raised, the counts go on, and the table of format 1 stays without a row. SQLite finds nothing amiss, and the next
+    """The first run that may write brings the store over: a record that was entered has its hold, its take number, the
+    empty text for its build dependencies and a rank that is raised, one whose build dependencies cannot be read has
+    none, the counts go on, and the table of format 1 stays without a row. SQLite finds nothing amiss, and the next
     commands are answered."""
-    made(folder)
+    made(folder, UNREAD)
     before = records_of(folder)
     answers = answers_of(
         folder, ["mine b1", "next amd64 b1", "built 1", "enter amd64 zlib 1.0 optional libs", "next amd64 b1"]
     )
     expect([answer.get("accepted") for answer in answers[2:]] == [5, 6, 7], f"answers: {answers}")
     expect(answers[1].get("refused") == "QueueEmpty" and answers[4]["take"] == 2, f"answers: {answers}")
-    expect(
-        before == (1, [("amd64", "hello", 1, "1.0", "optional", "devel", 0, 0, "b1", 1, "", None, "", "", 263)], 1),
-        f"the store as it was: {before}",
-    )
+    unread = ("amd64", "gcc", 7, "12-1", "optional", "devel", 0, 0, None, None, "", None, "no space", "", 263)
+    entered = ("amd64", "hello", 1, "1.0", "optional", "devel", 0, 0, "b1", 1, "", "", "", "", 263)
+    expect(before == (1, [unread, entered], 2), f"the store as it was: {before}")
     expect(rows_of(folder, "SELECT format, handed, accepted FROM office") == [(2, 2, 7)], "the row of the office")
-    found = rows_of(folder, "SELECT source, state, take, build_priority, rank FROM source_record ORDER BY source")
-    expect(found == [("hello", 2, 1, 0, 348263), ("zlib", 1, 2, 0, 348261)], f"the records: {found}")
+    wanted = "SELECT source, state, take, depends, build_priority, rank FROM source_record ORDER BY source"
+    found = rows_of(folder, wanted)
+    expect(found[:2] == [("gcc", 7, None, None, 0, 348263), ("hello", 2, 1, "", 0, 348263)], f"the records: {found}")
+    expect(found[2:] == [("zlib", 1, 2, "", 0, 348261)], f"the records: {found}")
     expect(rows_of(folder, "SELECT count(*) FROM source_state") == [(0,)], "a row is left in source_state")
     expect(rows_of(folder, "PRAGMA integrity_check") == [("ok",)], "SQLite finds the file damaged")
 

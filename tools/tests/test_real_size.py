@@ -268,7 +268,7 @@ def opening_of_40000_records_of_format_1(folder):
     format 1 takes the square of those that are not to be opened."""
     held = [("hello", "1.0"), *((f"source-{at:05}", "1.0-1") for at in range(2, OLD_RECORDS + 1))]
     given = ", ".join(f"('{name}', {take})" for take, (name, _) in list(enumerate(held, 1))[1:])
-    rows = "'amd64', name, 1, '1.0-1', 'optional', 'devel', 0, 0, 'b1', take, '', NULL, '', '', 263"
+    rows = "'amd64', name, 1, '1.0-1', 'optional', 'devel', 0, 0, 'b1', take, '', '', '', '', 263"
     script = (HERE / "stores/format-1.sql").read_text(encoding="utf-8").split(";\n")
     insert = f"WITH given(name, take) AS (VALUES {given}) INSERT INTO source_state SELECT {rows} FROM given"
     edit(folder / "store", *filter(str.strip, script), insert, f"UPDATE office SET handed = {OLD_RECORDS}")

@@ -26,4 +26,4 @@ CREATE TABLE scratch_binary(seq INTEGER PRIMARY KEY,
 INSERT INTO office VALUES(1, 1, 1, 4);
 INSERT INTO arch VALUES('amd64', 'linux', 'amd64');
 INSERT INTO builder VALUES('b1', 'amd64');
-INSERT INTO source_state VALUES('amd64', 'hello', 1, '1.0', 'optional', 'devel', 0, 0, 'b1', 1, '', NULL, '', '', 263);
+INSERT INTO source_state VALUES('amd64', 'hello', 1, '1.0', 'optional', 'devel', 0, 0, 'b1', 1, '', '', '', '', 263);

@@ -23,4 +23,4 @@ CREATE INDEX binary_name ON scratch_binary(name, seq);
 INSERT INTO office VALUES(1, 2, 1, 4);
 INSERT INTO arch VALUES('amd64', 'linux', 'amd64');
 INSERT INTO builder VALUES('b1', 'amd64');
-INSERT INTO source_record VALUES('amd64', 'hello', 1, '1.0', 'optional', 'devel', 0, 0, 'b1', 1, '', NULL, '', '', 0, 348263);
+INSERT INTO source_record VALUES('amd64', 'hello', 1, '1.0', 'optional', 'devel', 0, 0, 'b1', 1, '', '', '', '', 0, 348263);
