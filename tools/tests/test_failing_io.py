@@ -165,6 +165,37 @@ def needs_no_read_after_a_request():
     return f"{show(trials)} requests"
 
 
+# The greatest length of a head and of a body in bytes (docs/HTTP.md). Each read but the last gives a byte of them, so
+# an exchange makes at most one read more.
+HEAD, BODY = 8192, 16777216
+CUT_ANSWER = b"HTTP/1.1 400 Bad Request\r\nContent-Type: application/json\r\nContent-Length: 18\r\nConnection: close"
+CUT_ANSWER += b'\r\n\r\n{"http":"BodyCut"}'
+LARGE_HEAD = b"HTTP/1.1 431 Request Header Fields Too Large\r\nContent-Type: application/json\r\nContent-Length: 23\r\n"
+LARGE_HEAD += b'Connection: close\r\n\r\n{"http":"HeadTooLarge"}'
+
+
+def largest_request():
+    """The request with so many blanks after its body, and so long a further field, that both have their greatest
+    length."""
+    head, _, body = REQUEST.partition(b"\r\n\r\n")
+    head = head.replace(b"Content-Length: 31", b"Content-Length: %d\r\nX: " % BODY)
+    return head.ljust(HEAD - 4, b"x") + b"\r\n\r\n" + body.ljust(BODY)
+
+
+def makes_no_more_reads_than_the_largest_request_has_bytes():
+    """Of one byte each. The read that would come after the last byte is not made; nor is one after the end, if the
+    client stops before its last byte, or after 8192 bytes that are no whole head."""
+    data = largest_request()
+    expect((len(data), data.index(b"{")) == (HEAD + BODY, HEAD), "a length that is stated here is wrong")
+    endless = data[: HEAD - 4] + b"x" * HEAD
+    cut, large = Ended("answered", 400, 3, "none", CUT_ANSWER), Ended("answered", 431, 3, "none", LARGE_HEAD)
+    failed = Ended("read-failed", 0, 3, "reader", b"")
+    cases = [(data, len(data), ANSWERED), (data, len(data) - 1, failed), (data[:-1], len(data), cut)]
+    cases += [(data[:-1], len(data) - 1, failed), (endless, HEAD, large), (endless, HEAD - 1, failed)]
+    show([[BEGUN, asked("request", sent, wanted, 1, reads, failure="device")] for sent, reads, wanted in cases])
+    return f"{len(data)} reads"
+
+
 def carries_out_a_request_of_which_a_write_fails():
     """One byte a write: those before it were answered, the command stands, and a retry is answered with the same take
     number."""
@@ -356,7 +387,8 @@ def makes_no_write_after_the_answers():
 
 TESTS = [
     answers_a_request_in_pieces, carries_out_no_request_of_which_a_read_fails, needs_no_read_after_a_request,
-    carries_out_a_request_of_which_a_write_fails, makes_no_write_after_an_answer,
+    makes_no_more_reads_than_the_largest_request_has_bytes, carries_out_a_request_of_which_a_write_fails,
+    makes_no_write_after_an_answer,
     writes_no_answer_before_a_refusal_is_found, acts_on_lines_in_pieces, acts_on_no_line_of_which_a_read_fails,
     makes_no_read_after_the_end, acts_on_a_line_of_which_a_write_fails, makes_no_write_after_the_answers,
 ]

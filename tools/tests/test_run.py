@@ -12,6 +12,7 @@ hand from docs/PROTOCOL.md, none by the program.
 import contextlib
 import fcntl
 import os
+import shutil
 import signal
 import socket
 import struct
@@ -22,7 +23,7 @@ import time
 from pathlib import Path
 
 import query_cases
-from harness import WAIT, WB, answers_of, expect, limit_files, main, run
+from harness import ROOT, WAIT, WB, answers_of, expect, limit_files, main, run
 from store_runs import edit, rows_of
 
 # ---- what is kept
@@ -290,6 +291,33 @@ def keeps_ranks(folder):
             wanted = (0, b"") if other == rank else (3, b'{"fault":"store","store":"Damaged"}\n')
             expect((status, said) == wanted, f"{values} with the rank {other}: status {status}, {said}")
     return f"{len(RANKS)} ranks"
+
+
+# Lines in a row over the lists of an example, a word of the answer to the last of them, and the queue after it, with
+# the rank of each record.
+EARLIER = [("nn", 348087), ("mm", 348089), ("zz", 348143)]
+IN_RANKS = [
+    ([*BEGIN, "merge sources amd64=packages"], "merge", [*EARLIER, ("aa", 348174)]),
+    (["build-priority amd64 aa 2.0 5"], "build-priority", [("aa", 346434), *EARLIER]),
+    (["build-priority amd64 aa 2.0 1001"], "BadNumber", [("aa", 346434), *EARLIER]),
+    (["build-priority amd64 aa 2.0 -- -1000"], "build-priority", [*EARLIER, ("aa", 696174)]),
+    (["merge sources-3 amd64=packages"], "merge", [*EARLIER, ("aa", 696174)]),
+]
+
+
+def ranks_follow_build_priorities(folder):
+    """The table and the queue have the records of a merge in the order of their ranks, and so it is after each build
+    priority."""
+    for name in ("sources", "sources-3", "packages"):
+        shutil.copy(ROOT / "examples/build-priorities" / name, folder)
+    for lines, wanted, ranks in IN_RANKS:
+        *_, last, asked = answers_of(folder, [*lines, "queue amd64"])
+        expect(wanted in last.values(), f"{lines}: the last is answered {last}")
+        rows = rows_of(folder, "SELECT source, rank FROM source_record ORDER BY rank")
+        expect(rows == ranks, f"{lines}: the ranks are {rows}")
+        queue = [entry["source"] for entry in asked["queue"]]
+        expect(queue == [name for name, _ in ranks], f"{lines}: the queue is {queue}")
+    return f"{len(IN_RANKS)} queues"
 
 
 # What is available, and relations with what a merge makes of a package that waits for them.
@@ -676,7 +704,10 @@ TESTS += [
     stops_at_each_read_that_fails, stops_at_each_write_that_fails, stops_at_files_that_cannot_be_used,
     goes_on_after_short_writes,
 ]
-TESTS += [refuses_malformed_names, keeps_ranks, ends_waits_that_are_met, names_malformed_arguments, starts_by_its_words]
+TESTS += [
+    refuses_malformed_names, keeps_ranks, ranks_follow_build_priorities, ends_waits_that_are_met,
+    names_malformed_arguments, starts_by_its_words,
+]
 TESTS += [
     answers_queries, answers_build_dependencies, takes_reports, refuses_reports_that_cannot_be_read,
     asks_with_the_words_of_each_query,
