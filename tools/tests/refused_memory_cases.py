@@ -2,9 +2,8 @@
 it answers with ample memory. Everything is stated here by hand, after docs/PROTOCOL.md and docs/HTTP.md.
 
 LINES are lines of a run and, by the same text, the words of a single command; REQUESTS are requests over HTTP; OPENINGS
-are starts of a run over files of a kind; SESSIONS and LIVES are for the program of crates/trials. `rows` of a case are
-those before and after, as SQLite gives them with the name of the table first; None where they are only compared with
-those of the same program with ample memory. PLANTED are wrong ways to end, which the test has to find.
+are starts of a run over files of a kind. `rows` of a case are those before and after, as SQLite gives them with the
+name of the table first; None where they are only compared with those of the same program with ample memory.
 """
 import json
 from dataclasses import dataclass, field
@@ -685,51 +684,3 @@ OPENINGS = {
     ]),
     "opening-of-format-2": ([], "format-2.sql", None, None),
 }  # fmt: skip
-
-
-# ---- wrong ways: for a case of this name the end of a line of which a request was refused, as the test notes it
-
-PLANTED = {
-    "next": [
-        # another refusal
-        (IN_DOUBT, MINE, NEXT_TAR, BEGUN, 0),
-        (NOT_HELD, MINE, NEXT_TAR, BEGUN, 0),
-        # the command stands all the same
-        (MEMORY, MINE_OF_TAR, NEXT_HELLO, HANDED, 0),
-        (MEMORY, MINE, NEXT_TAR, HANDED, 0),
-        (MEMORY, MINE, NEXT_HELLO, BEGUN, 0),
-        # a count is lost
-        (MEMORY, MINE, job(9, 2, "amd64", "tar", "1.30"), BEGUN, 0),
-        (MEMORY, MINE, NEXT_TAR, rows(0, 8, *RECORDS), 0),
-        (MEMORY, MINE, NEXT_TAR, rows(1, 7, *RECORDS), 0),
-        (MEMORY, MINE, NEXT_TAR, BEGUN[:-1], 0),
-        # memory is still out
-        (MEMORY, MINE, MEMORY, BEGUN, 0),
-        (MEMORY, MEMORY, NEXT_TAR, BEGUN, 0),
-        # the command does not stand
-        (NEXT_TAR, MINE, NEXT_TAR, BEGUN, 0),
-        (NEXT_TAR, MINE_OF_TAR, MEMORY, HANDED, 0),
-        (NEXT_TAR, MINE_OF_TAR, NEXT_HELLO, BEGUN, 0),
-        # the run ended, and what was asked for does not stand, or nothing was said of it
-        ("", MINE, NEXT_TAR, BEGUN, 3),
-        ("", MINE_OF_TAR, NEXT_HELLO, HANDED, 0),
-        ("", MINE_OF_TAR, NEXT_HELLO, HANDED, 1),
-        (CLOSED, MINE, NEXT_TAR, BEGUN, 3),
-    ],
-    "not-held": [
-        (IN_DOUBT, shown(*TAR, **TAKEN), NOT_HELD, HANDED, 0),
-        (MEMORY, shown(*TAR, **TAKEN), MEMORY, HANDED, 0),
-        (MEMORY, shown(*TAR), NOT_HELD, HANDED, 0),
-        ("", shown(*TAR, **TAKEN), NOT_HELD, HANDED, 3),
-    ],
-    "merge": [
-        (MEMORY, COMMANDS["merge"].asked[0], COMMANDS["merge"].first, AFTER_MERGE, 0),
-        (MEMORY, COMMANDS["merge"].asked[0], COMMANDS["merge"].first, [*AFTER_MERGE[:6], *BEGUN[6:]], 0),
-        (MEMORY, COMMANDS["merge"].asked[0], COMMANDS["merge"].first, [*BEGUN, ("scratch_source", 1)], 0),
-    ],
-    "item": [
-        (IN_DOUBT, shown(*TAR, **TAKEN), shown(*TAR, **TAKEN), HANDED, 0),
-        (UNKNOWN_SOURCE, shown(*TAR, **TAKEN), shown(*TAR, **TAKEN), HANDED, 0),
-        (MEMORY, MEMORY, MEMORY, HANDED, 0),
-    ],
-}

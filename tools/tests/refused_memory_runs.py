@@ -1,6 +1,7 @@
 """Programs under the library of refuse_memory.c, and the files of an office as SQLite reads them, for
 tools/tests/test_refused_memory.py.
 """
+import json
 import mmap
 import os
 import shutil
@@ -133,6 +134,12 @@ def rows_in(folder, tables=TABLES, name="store"):
                 if table in there:
                     found += [(table, *row) for row in database.execute(f"select * from {table} order by {key}")]
             return found
+
+
+def entries_in(journal):
+    """The answers in a journal, of which there may be none."""
+    lines = journal.read_text(encoding="utf-8").splitlines() if journal.exists() else []
+    return [json.loads(line)["answer"] for line in lines]
 
 
 def make_database(path, sql):

@@ -1,10 +1,10 @@
 """Cases of tools/tests/test_refused_memory.py for the program of crates/trials: openings, closings, a session and two
 lives over files in memory, with what they show with ample memory and for each way to say that memory ran out.
-Everything is stated here by hand; PLANTED are wrong ways, which the test has to find.
+Everything is stated here by hand.
 """
 from dataclasses import dataclass
 
-from refused_memory_cases import BEGUN, EMPTY, HANDED, HELD, IN_DOUBT, MEMORY, OFFICE, OTHER, TAR, ZLIB, HELLO
+from refused_memory_cases import EMPTY, HANDED, HELD, HELLO, MEMORY, OFFICE, OTHER, TAR, ZLIB
 from refused_memory_cases import accepted, job, record, refusal, rows
 
 # ---- sessions and lives
@@ -133,17 +133,4 @@ TRIALS = {
     "opening": over("open", HELD, HANDED, [HANDED]),
     "upgrade": upgrade(),
     "opening-and-closing": over("close", HELD, HANDED, [HANDED]),
-}
-
-
-PLANTED = {
-    "session": [
-        ["fault Device", GONE],
-        [*DAY_DONE[0], *(as_line(row) for row in BEGUN)],
-        [MEMORY, *DAY_DONE[0][1:], *DAY_DONE[1]],
-        [*day(0)[0], *DAY_DONE[1]],
-        [*DAY_DONE[0], *day(0)[1]],
-        [*[MEMORY] * len(DAY), *(as_line(row) for row in BEGUN)],
-        [IN_DOUBT, *day(0)[0][1:], *day(0)[1]],
-    ]
 }

@@ -2,7 +2,8 @@
 """Tests of a program that is out of memory: each request for memory within one line, one request over HTTP, one start
 or one end of the proved `wb` is refused in turn, by the library of refuse_memory.c. So are those of single commands, of
 lines with a journal and over tables in memory, and of a session and of lives by the program of crates/trials.
-refused_memory_cases.py has the cases and all answers, stated by hand.
+refused_memory_cases.py has the cases and all answers, stated by hand; refused_memory_judges.py says of each end whether
+it is right, and refused_memory_planted.py has wrong ends, which it has to find.
 
 A line is then answered as with ample memory, if the program could do without, or by the refusal Memory; or the run ends
 with 3, without a byte of an answer, if it was accepted and there is no memory for its reply. Nothing else is let
@@ -22,40 +23,33 @@ From the environment: WB and TRIALS are the programs, those of crates/wb and cra
 which the second is then built if need be; where EACH is set, each request is refused. It needs cc, and a C library with
 which a library can be put before it.
 """
-import collections
 import itertools
-import json
 import os
 import socket
 import sqlite3
 import subprocess
 import sys
 from concurrent.futures import ThreadPoolExecutor
-from dataclasses import dataclass
 from pathlib import Path
 
-sys.dont_write_bytecode = True
-import refused_memory_cases as cases  # noqa: E402
-import refused_trial_cases as trial_cases  # noqa: E402
-from refused_memory_cases import CLOSED, FILE_FAULT, IN_DOUBT, LINE_FAULT, MEMORY, MEMORY_FAULT, answered  # noqa: E402
-from harness import WAIT, Failure, expect, trial_program  # noqa: E402
-from refused_memory_runs import TABLES, TABLES_OF_1, Kept, Run, Tools  # noqa: E402
-from refused_memory_runs import bytes_in, fresh, make_database, rows_in, run_all  # noqa: E402
+import refused_memory_cases as cases
+import refused_memory_judges as judges
+import refused_memory_planted
+import refused_trial_cases as trial_cases
+from harness import WAIT, Failure, expect, trial_program
+from refused_memory_cases import CLOSED, LINE_FAULT, MEMORY, answered
+from refused_memory_judges import AS_AMPLE, NO_ANSWER, NOT_OPENED, OUT_OF_MEMORY, Tally
+from refused_memory_runs import TABLES, TABLES_OF_1, Kept, Run, Tools
+from refused_memory_runs import bytes_in, entries_in, fresh, make_database, rows_in, run_all
 
 # Of the requests of a start so many of the first and of the last are refused, and so many between.
 ENDS, BETWEEN = 20, 40
 REPLY = 25  # at most so many of the last requests of a command are those of its reply
-NO_REPLY = "out of memory for the reply to an accepted command"
-NOT_ANSWERED = "a command was accepted, and not answered for want of memory"
-LOST, AGAIN = "cannot be written, and commands go on without it", "is written again, and lacks 1 entries"
 PORTS = itertools.cycle(range(21000, 29000))
 PLANTED_TEST = "planted-ends-are-found"
 
 
 # ---- which requests are refused, and how each ended
-
-AS_AMPLE, OUT_OF_MEMORY, CLOSED_BY_IT = "needless", "answered Memory", "answered Memory and closed"
-NO_ANSWER = "accepted without a reply"
 
 
 def numbers_of(asked):
@@ -64,23 +58,6 @@ def numbers_of(asked):
         return range(1, asked + 1)
     step = (asked - 2 * ENDS) // BETWEEN
     return [*range(1, ENDS + 1), *range(ENDS + 1, asked - ENDS, step), *range(asked - ENDS + 1, asked + 1)]
-
-
-class Tally:
-    """How the refusals of a case ended."""
-
-    def __init__(self, asked=0):
-        self.asked = asked
-        self.ends = collections.Counter()
-
-    def __str__(self):
-        counts = ", ".join(f"{count} {end}" for end, count in sorted(self.ends.items()))
-        return f"{sum(self.ends.values())} of {self.asked} requests refused" + f": {counts}" * bool(counts)
-
-    def expect_ways(self, *wanted):
-        """Each of these ends comes."""
-        for end in wanted:
-            expect(self.ends[end], f"no refused request ends so: {end}; {self}")
 
 
 def refuse_each(asked, one):
@@ -94,38 +71,15 @@ def refuse_each(asked, one):
     return tally
 
 
+def told(word, number, asked, is_refused):
+    """How it ended with the request of this number refused; or how many requests there are, if none was to be
+    refused."""
+    expect(is_refused == bool(number), f"of {asked} requests that of number {number} was not refused")
+    expect(number or word == AS_AMPLE, f"with ample memory it ends so: {word}")
+    return word if number else asked
+
+
 # ---- lines
-
-
-@dataclass(frozen=True)
-class End:
-    """What came of a line of which a request was refused: its answer, that to a query after it, that to the same line
-    then, which is not asked again where it is to be refused again, the rows, and the status of a run that ended
-    early."""
-
-    answer: str
-    asked: str
-    again: str | None
-    rows: list
-    status: int = 0
-
-
-def end_of(case, rows, end):
-    """How the line ended, in a word; `rows` are those before and after."""
-    stood = (end.asked, end.again, end.rows) == (case.asked[1], case.second, rows[1])
-    if end.answer == case.first and stood and end.status == 0:
-        return AS_AMPLE
-    if (
-        end.answer == MEMORY
-        and end.asked == case.asked[0]
-        and end.again in (case.first, None)
-        and end.rows == rows[0]
-        and end.status in (0, 3)
-    ):
-        return CLOSED_BY_IT if end.status else OUT_OF_MEMORY
-    if end.answer == "" and end.status == 3 and case.is_command and stood:
-        return NO_ANSWER
-    raise Failure(f"it ends so: {end}")
 
 
 class LineTrial:
@@ -192,9 +146,9 @@ class LineTrial:
             answer = run.ask(self.case.line, number)
             tally.asked, is_refused = run.counted()
             end = self.end(run, folder, at_first, answer, is_refused)
-            word = end_of(self.case, self.rows, end)
+            word = judges.line_end(self.case, self.rows, end)
             if self.journal:
-                self.look_at_journal(run, folder, word, end)
+                judges.journal_end(self.case, word, end, entries_in(folder / self.journal))
         except (Failure, sqlite3.Error, subprocess.TimeoutExpired) as why:
             raise Failure(f"with request {number} refused {why}") from None
         if not is_refused:
@@ -211,35 +165,11 @@ class LineTrial:
             asked = run.ask(case.query)
             if asked != CLOSED and asked != "":
                 goes_on = answer == MEMORY and case.is_command and is_refused and not self.is_cold
-                return End(answer, asked, None if goes_on else run.ask(case.line), left)
+                again = None if goes_on else run.ask(case.line)
+                return judges.LineEnd(answer, asked, again, left, 0, run.said())
         status, _ = run.end()
-        if answer == "":
-            expect(NO_REPLY in run.said(), f"the run ended with {status}, and says {run.said()!r}")
-        said, _ = run_all(self.tools, folder, [case.query, case.line])
-        return End(answer, *said, left, status)
-
-    def look_at_journal(self, run, folder, word, end):
-        """The journal has an entry for a command that stands, or standard error says that it is lost; and none for
-        another."""
-        path = folder / self.journal
-        entries = (
-            [json.loads(line)["answer"] for line in path.read_text(encoding="utf-8").splitlines()]
-            if path.exists()
-            else []
-        )
-        stood = word in (AS_AMPLE, NO_ANSWER) and self.case.is_command
-        wanted = [json.loads(self.case.first)] if stood else []
-        if end.again is not None and end.status == 0:
-            for answer in [self.case.first if not stood else "", end.again]:
-                if answer == end.again and '"accepted"' in answer and self.case.is_command:
-                    wanted.append(json.loads(answer))
-        is_lost = LOST in run.said()
-        expect(
-            entries == wanted or is_lost and stood and entries == wanted[1:],
-            f"the journal has {entries}, and {run.said()!r} is said",
-        )
-        if is_lost and len(wanted) > 1:
-            expect(AGAIN in run.said(), f"it is not said that an entry lacks: {run.said()!r}")
+        asked, again = run_all(self.tools, folder, [case.query, case.line])[0]
+        return judges.LineEnd(answer, asked, again, left, status, run.said())
 
 
 def try_line(tools, case, **how):
@@ -261,22 +191,11 @@ def try_in_memory(tools, case):
                 for line in case.before:
                     run.ask(line)
                 answer = run.ask(case.line, number)
-                asked, is_refused = run.counted()
-                expect(is_refused == bool(number), f"request {number} was not refused: {asked}")
-                if number == 0:
-                    expect(answer == case.first, f"with ample memory it is answered {answer}")
-                    return asked
-                query = run.ask(case.query)
-                if answer == MEMORY and query == case.asked[0] and run.ask(case.line) == case.first:
-                    return OUT_OF_MEMORY
-                if answer == case.first and query == case.asked[1] and run.ask(case.line) == case.second:
-                    return AS_AMPLE
+                counted = run.counted()
+                asked, again = run.ask(case.query), run.ask(case.line)
                 status, _ = run.end()
-                if answer == "" and status == 3 and NO_REPLY in run.said() and case.is_command:
-                    return NO_ANSWER
-                if answer in (MEMORY, IN_DOUBT) and query in ("", CLOSED) and status == 3:
-                    return CLOSED_BY_IT if answer == MEMORY else "answered Store and ended"
-                raise Failure(f"it is answered {answer!r}, then {query!r}, and ends with {status}")
+                end = judges.MemoryEnd(answer, asked, again, status, run.said())
+        return told(judges.memory_end(case, end), number, *counted)
 
     tally = refuse_each(one(0), one)
     tally.expect_ways(OUT_OF_MEMORY)
@@ -329,7 +248,7 @@ class RequestTrial:
                     is_done, goes_on = self.one(run, port, folder, at_first, number, tally)
                     if is_done:
                         return False
-                    if not goes_on or self.is_cold:
+                    if not goes_on:
                         return True
                 return False
 
@@ -343,7 +262,7 @@ class RequestTrial:
                 return port, run
             with run:
                 run.process.wait(WAIT)
-                expect("nothing can be served" in run.said(), f"the program does not serve: {run.said()!r}")
+                expect(judges.NO_ROUTES in run.said(), f"the program does not serve: {run.said()!r}")
 
     def ask(self, run, port, chosen=0):
         """What is answered, and whether the program goes on."""
@@ -357,34 +276,27 @@ class RequestTrial:
         answer, goes_on = self.ask(run, port, number)
         tally.asked, is_refused = run.counted()
         left = self.rows[0] if bytes_in(folder) == at_first else rows_in(folder)
-        word = self.word(run, answer, goes_on, left)
-        expect(
-            word is not None,
-            f"with request {number} refused it is answered {answer!r}, {run.said()!r} is said, and these rows are "
-            f"left: {left}",
-        )
+        said = run.said()
+        is_unchanged = answer == answered(503, MEMORY) or not self.case.is_command
+        is_left = is_refused and goes_on and is_unchanged and not self.is_cold
+        try:
+            again = None if is_left else self.again(run, port, folder, goes_on)
+            word = judges.request_end(self.case, self.rows, judges.RequestEnd(answer, goes_on, again, left, said))
+        except (Failure, OSError) as why:
+            raise Failure(f"with request {number} refused {why}") from None
         if not is_refused:
             expect(word == AS_AMPLE, f"no request was refused, and it is answered {answer!r}")
-        changed = self.case.is_command and word in (AS_AMPLE, NO_ANSWER)
-        if not is_refused or changed:
-            again = self.ask(run, port)[0] if goes_on else answered(*self.case.second)
-            expect(
-                again == answered(*self.case.second),
-                f"with request {number} refused it is answered {again!r} once more",
-            )
-        if is_refused:
-            tally.ends[word] += 1
-        return not is_refused, goes_on and not changed
+            return True, False
+        tally.ends[word] += 1
+        return False, is_left
 
-    def word(self, run, answer, goes_on, left):
-        """How it ended, in a word; None if it ended wrongly."""
-        if answer == answered(*self.case.first) and left == self.rows[1] and goes_on:
-            return AS_AMPLE
-        if answer == answered(503, MEMORY) and left == self.rows[0]:
-            return OUT_OF_MEMORY if goes_on else CLOSED_BY_IT
-        if answer == b"" and self.case.is_command and left == self.rows[1] and NOT_ANSWERED in run.said():
-            return NO_ANSWER
-        return None
+    def again(self, run, port, folder, goes_on):
+        """What the same request is answered then, by the program or by one that is started over the same files."""
+        if goes_on:
+            return self.ask(run, port)[0]
+        port, other = self.served(folder)
+        with other:
+            return self.ask(other, port)[0]
 
 
 def try_request(tools, case):
@@ -398,30 +310,6 @@ def try_request(tools, case):
 # ---- single commands, starts and ends
 
 
-def status_of(answer):
-    """The status of a line that is answered so."""
-    if answer in (LINE_FAULT, FILE_FAULT):
-        return 2 if answer == LINE_FAULT else 3
-    return 1 if '"refused"' in answer and '"parts"' not in answer else 0
-
-
-def words_end(case, rows, said, status, left, errors):
-    """How a single command ended, in a word."""
-    if said == f"{case.first}\n" and status == status_of(case.first) and left == rows[1]:
-        return AS_AMPLE
-    if left == rows[0]:
-        for answer, statuses, word in [
-            (MEMORY, (1, 3), OUT_OF_MEMORY),
-            (MEMORY_FAULT, (3,), "not opened"),
-            (LINE_FAULT, (2,), "without room for the words"),
-        ]:
-            if said == f"{answer}\n" and status in statuses:
-                return word
-    if said == "" and status == 3 and case.is_command and left == rows[1] and NO_REPLY in errors:
-        return NO_ANSWER
-    raise Failure(f"it ends with {status}, {said!r}, {errors!r} and the rows {left}")
-
-
 def try_words(tools, case):
     """The tally of a single command."""
     trial = LineTrial(tools, case)
@@ -431,22 +319,15 @@ def try_words(tools, case):
             folder = Path(name)
             trial.kept.lay_out(folder)
             with Run(tools, folder, [tools.wb, "--store", "store", *case.line.split()], number) as run:
-                status, said = run.end()
-                asked, is_refused = run.counted()
-                left = rows_in(folder)
-                word = words_end(case, trial.rows, said, status, left, run.said())
-                expect(is_refused == bool(number), f"of {asked} requests that of number {number} was not refused")
+                status, output = run.end()
+                counted, said, left = run.counted(), run.said(), rows_in(folder)
             again, _ = run_all(tools, folder, [case.query, case.line])
-            stood = word in (AS_AMPLE, NO_ANSWER)
-            expect(
-                again == [case.asked[stood], case.second if stood else case.first],
-                f"it is answered {again} next, and the first time {said!r}",
-            )
-        return word if number else asked
+        end = judges.WordsEnd(output, status, said, left, again)
+        return told(judges.words_end(case, trial.rows, end), number, *counted)
 
     tally = refuse_each(one(0), one)
     is_refused = case.is_refused and case.first != LINE_FAULT
-    tally.expect_ways(*([OUT_OF_MEMORY] if is_refused else []), *([NO_ANSWER] if case.is_command else []), "not opened")
+    tally.expect_ways(*([OUT_OF_MEMORY] if is_refused else []), *([NO_ANSWER] if case.is_command else []), NOT_OPENED)
     return tally
 
 
@@ -465,39 +346,19 @@ def try_opening(tools, opening, more=()):
             kept.lay_out(folder)
             words = [*more, "--port", str(next(PORTS)), "--requests", "1"] if is_serving else more
             with Run(tools, folder, [tools.wb, "--store", "store", *words], number) as run:
-                goes_on = run.wait_for_part()
-                asked, is_refused = run.counted()
+                goes_on, counted = run.wait_for_part(), run.counted()
                 if goes_on and is_serving:
                     run.process.terminate()
-                status, said = run.end()
-                errors = run.said()
-            expect(is_refused == bool(number), f"of {asked} requests that of number {number} was not refused")
+                status, output = run.end()
+                said = run.said()
             left = rows_in(folder, TABLES | TABLES_OF_1) if (folder / "store").exists() else []
-            word = opening_end(goes_on, said, status, errors)
-            expect(left == after or left == before and not goes_on, f"it is {word}, and these rows are left: {left}")
             answers, _ = run_all(tools, folder, ["add-arch s390x linux s390x"])
-            wanted = cases.accepted(after[0][4] + 1, "add-arch")
-            expect(answers == [wanted], f"it is {word}, and the next run answers {answers} for {wanted}")
-        return word if number else asked
+        end = judges.StartEnd(goes_on, output, status, said, left, answers)
+        return told(judges.start_end(before, after, end), number, *counted)
 
     tally = refuse_each(one(0), one)
-    tally.expect_ways("not opened")
+    tally.expect_ways(NOT_OPENED)
     return tally
-
-
-def opening_end(goes_on, said, status, errors):
-    """How a start ended, in a word."""
-    if goes_on and said == "":
-        return AS_AMPLE
-    for answer, wanted, why, word in [
-        (f"{MEMORY_FAULT}\n", 3, "", "not opened"),
-        (f"{LINE_FAULT}\n", 2, "", "without room for the words"),
-        ("", 3, "out of memory for the room that holds a line", "without room for lines"),
-        ("", 3, "nothing can be served", "without room for routes"),
-    ]:
-        if (said, status) == (answer, wanted) and why in errors:
-            return word
-    raise Failure(f"it ends with {status}, {said!r} and {errors!r}")
 
 
 def try_closing(tools, lines, rows, is_changed):
@@ -511,18 +372,12 @@ def try_closing(tools, lines, rows, is_changed):
             with Run(tools, folder, [tools.wb, "--store", "store", "run"]) as run:
                 if is_changed:
                     run.ask(lines[-1])
-                status, said = run.end(number)
-                asked, is_refused = run.counted()
-                errors = run.said()
-            expect(is_refused == bool(number), f"of {asked} requests that of number {number} was not refused")
-            expect((said, status) == ("", 0), f"it ends with {status}, {said!r} and {errors!r}")
+                status, output = run.end(number)
+                counted, said = run.counted(), run.said()
             left = rows_in(folder)
-            expect(left == rows, f"these rows are left: {left}")
             answers, _ = run_all(tools, folder, ["mine b1"])
-            expect(answers == [cases.MINE_OF_TAR], f"the next run answers {answers}")
-        if number == 0:
-            return asked
-        return "not closed" if "was not closed: out of memory" in errors else AS_AMPLE
+        end = judges.CloseEnd(output, status, said, left, answers)
+        return told(judges.close_end(rows, end), number, *counted)
 
     return refuse_each(one(0), one)
 
@@ -537,18 +392,6 @@ def numbers_in_trial(asked):
         return range(1, asked + 1)
     between = range(ENDS + 1, asked, max(1, asked // (12 * BETWEEN)))
     return sorted({*range(1, ENDS + 1), *between, *range(max(1, asked - 4 * BETWEEN), asked + 1, 5)})
-
-
-def judge_trial(case, asked, found):
-    """How each refusal of a trial ended, by what the program shows: each way to say that memory ran out comes."""
-    tally, shown = Tally(asked), [lines for _, lines in found]
-    for number, lines in found:
-        ways = [case.ample, *case.refused, *case.closed]
-        expect(lines in ways, f"with request {number} refused it shows {lines}")
-        tally.ends[AS_AMPLE if lines == case.ample else OUT_OF_MEMORY if lines in case.refused else "not closed"] += 1
-    for at, way in enumerate(case.refused, 1):
-        expect(way in shown, f"way {at} of {len(case.refused)} to say that memory ran out never comes: {way[:3]}")
-    return tally
 
 
 def try_trial(tools, case):
@@ -580,48 +423,7 @@ def try_trial(tools, case):
                 found.append((number, lines))
             lines, *_ = shown(case.line)
             expect(lines == case.ample, f"with ample memory it shows {lines} then")
-    return judge_trial(case, asked, found)
-
-
-# ---- the test of the tests
-
-
-def is_found(check, *words):
-    """Whether a check finds a fault."""
-    try:
-        check(*words)
-    except Failure:
-        return True
-    return False
-
-
-def planted(_):
-    """Whether wrong ends are found, also a way that does not come, and whether none is made up."""
-    missed, count = [], 0
-    for name, ends in cases.PLANTED.items():
-        case = cases.LINES[name]
-        rows = case.rows or (cases.HANDED, cases.HANDED)
-        good = [End(case.first, case.asked[1], case.second, rows[1]), End(MEMORY, case.asked[0], case.first, rows[0])]
-        good += [End(MEMORY, case.asked[0], None, rows[0]), End(MEMORY, case.asked[0], case.first, rows[0], 3)]
-        good += [End("", case.asked[1], case.second, rows[1], 3)] * case.is_command
-        missed += [f"{name}: {end} is made up" for end in good if is_found(end_of, case, rows, end)]
-        wrong = [End(*end) for end in ends]
-        missed += [f"{name}: {end}" for end in wrong if not is_found(end_of, case, rows, end)]
-        count += len(wrong)
-    for name, wrong in trial_cases.PLANTED.items():
-        case = trial_cases.TRIALS[name]
-        good = [case.ample, *case.refused, *case.closed]
-        missed += [f"{name}: a fault is made up"] * is_found(judge_trial, case, 0, list(enumerate(good)))
-        faulty = [[*good, lines] for lines in wrong] + [
-            [lines for lines in good if lines != way] for way in case.refused
-        ]
-        missed += [
-            f"{name}: {found[-1]}" for found in faulty if not is_found(judge_trial, case, 0, list(enumerate(found)))
-        ]
-        count += len(faulty)
-    missed += ["a way that does not come"] * (not is_found(Tally().expect_ways, OUT_OF_MEMORY))
-    expect(not missed, f"not found: {missed}")
-    return f"{count} wrong ends"
+    return judges.judge_trial(case, asked, found)
 
 
 # ---- all tests
@@ -658,7 +460,7 @@ def tests():
     found |= {
         f"trial-{name}": (lambda tools, case=case: try_trial(tools, case)) for name, case in trial_cases.TRIALS.items()
     }
-    found[PLANTED_TEST] = planted
+    found[PLANTED_TEST] = lambda tools: refused_memory_planted.look()
     return found
 
 
