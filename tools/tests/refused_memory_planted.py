@@ -16,7 +16,7 @@ from refused_memory_cases import OPENINGS, RECORDS, REQUESTS, TAKEN, TAR, UNKNOW
 from refused_memory_cases import accepted, answered, as_json, job, rows, shown
 from refused_memory_judges import AS_AMPLE, LOST, NO_ANSWER, NO_LINES, NO_REPLY, NO_ROUTES, NOT_ANSWERED, OUT_OF_MEMORY
 from refused_memory_judges import CloseEnd, LineEnd, MemoryEnd, RequestEnd, StartEnd, WordsEnd
-from refused_trial_cases import DAY, DAY_DONE, FAULT, GONE, as_line, day
+from refused_trial_cases import DAY, DAY_DONE, FAULT, GONE, LIVES, as_line, day, lives
 
 
 @dataclass(frozen=True)
@@ -288,6 +288,10 @@ def shown_rows(found):
 
 
 BEGUN_ROWS, EMPTY_ROWS, HANDED_ROWS = map(shown_rows, (BEGUN, EMPTY, HANDED))
+FIRST_LIFE, SECOND_FAILED = lives(None)[:3], [FAULT, "cut 2", "cut 2", "left 0"]
+FIRST_ALONE, SECOND_ALONE = (
+    shown_rows(rows(0, count, archs=sorted(names), builders=[])) for count, names in zip((2, 4), LIVES)
+)
 WRONG_TRIALS = {
     "first-opening": [[FAULT, "fault NotOffice"], [FAULT, *BEGUN_ROWS], ["fault Damaged", *EMPTY_ROWS], [FAULT]],
     "opening": [
@@ -302,6 +306,26 @@ WRONG_TRIALS = {
         [*DAY_DONE[0], *day(0)[1]],
         [*[MEMORY] * len(DAY), *BEGUN_ROWS],
         [IN_DOUBT, *day(0)[0][1:], *day(0)[1]],
+    ],
+    "lives": [
+        # a fault is made up, before the first life or after it
+        ["fault Device"],
+        ["fault Device", "cut 0", "left 1", *EMPTY_ROWS],
+        [*FIRST_LIFE, "fault NotOffice", *SECOND_FAILED[1:], *FIRST_ALONE],
+        # memory ran out for another command than is told, for another kind of refusal, or for all
+        [*lives(0)[:1], *lives(0)[2:0:-1], *lives(0)[3:]],
+        [IN_DOUBT if line == MEMORY else line for line in lives(0)],
+        [lives(None)[0], MEMORY, MEMORY, "opened 0 1", MEMORY, MEMORY, "cut 0", "cut 0", "left 0", *EMPTY_ROWS],
+        # a cut too few, or one of which nobody knows what it left
+        [line for line in lives(None) if line != "cut 4"],
+        [*FIRST_LIFE, FAULT, "cut 2", "left 1", *FIRST_ALONE],
+        ["cut none" if line == "cut 4" else line for line in lives(None)],
+        # what the first life was answered is lost
+        [*FIRST_LIFE, *SECOND_FAILED, *EMPTY_ROWS],
+        ["opened 0 1" if line == "opened 2 3" else line for line in lives(None)],
+        [*lives(None)[:9], *SECOND_ALONE],
+        # the files are lost
+        [*lives(None)[:9], GONE],
     ],
 }
 
