@@ -15,7 +15,7 @@ use Rattle.wb_step.proofs.OfficeLemmas.{is_of_store-cases, refusal-cases}
 use Rattle.wb_step.proofs.CountedLemmas.{step-unchanged}
 use Rattle.wb_states.specs.Machine.{is_unknown_arch, is_unknown_builder}
 use Rattle.wb_step.specs.Checks.{MayWantMemory}
-use Rattle.wb_step.specs.Offices.{Failed, Leads, Open, Shut, Standing, Stands}
+use Rattle.wb_step.specs.Offices.{Failed, Leads, Open, Shut, Standing, Stands, StandsOn}
 use Rattle.wb_states.specs.State.{state_named}
 use Rattle.wb_states.specs.declared.state.State.{State}
 use Rattle.wb_states.specs.Queries.{answer_in, answer_of, depends_at, found_at, has_malformed_name, records_in}
@@ -26,7 +26,7 @@ use Rattle.wb_api.specs.Encoding.{is_plain, reply_text}
 use Rattle.wb_states.specs.declared.query.Query.{Query}
 use Rattle.wb_states.specs.declared.query.Query.TheVariants as query
 use Rattle.wb_api.specs.Responses.{IsFoundAnswer, command_response, found_response, IsRefusal, memory_response, refusal_response, reply_response, Response}
-use Rattle.wb_api.specs.Exchange.{IsCommandAnswer, IsQueryAnswer, over_http}
+use Rattle.wb_api.specs.Exchange.{IsCommandAnswer, IsQueryAnswer, LeadsOn, over_http}
 
 -- ---- where a refusal leads
 
@@ -52,6 +52,33 @@ refusal-leads is_clean is_closed stands_at leaves old new IsSo refusal doubt clo
         | inr of_machine ↦ let s = refused before clean stands of_machine other in (before, Open, s.0, s.1)
       ]
     ]) refl
+
+-- the same, and an office that is not closed after it stands open: one whose store failed is closed
+pub refusal-leads_on : {X : Type 0} (is_clean is_closed : X → Type 0) (stands_at : X → Machine → Type 0) (leaves : X → Machine → Machine → StoreFault → Type 0) (old new : X)
+    (IsSo : Machine → Machine → Standing → Type 0) (refusal : Refusal) (doubt : StoreFault → Standing)
+    → (is_of_store refusal ≡ true → ¬ (¬ (is_closed new)))
+    → ((before : Machine) → is_clean new → stands_at old before → refusal ≡ Closed → (is_closed new × stands_at new before) × IsSo before before Shut)
+    → ((before : Machine) → is_clean new → stands_at old before → (fault : StoreFault) → refusal ≡ Store fault
+    → Stands is_closed stands_at leaves new before (doubt fault) × IsSo before before (doubt fault))
+    → ((before : Machine) → is_clean new → stands_at old before → refusal ≡ Memory → stands_at new before × IsSo before before Open)
+    → ((before : Machine) → is_clean new → stands_at old before → IsOfMachine refusal → is_of_store refusal ≡ false
+    → stands_at new before × IsSo before before Open)
+    → LeadsOn is_clean is_closed stands_at leaves old new IsSo
+refusal-leads_on is_clean is_closed stands_at leaves old new IsSo refusal doubt shuts closed failed memory refused =
+    refusal-leads is_clean is_closed stands_at leaves old new
+    (λ before after standing. IsSo before after standing × (¬ (is_closed new) → standing ≡ Open)) refusal doubt
+    (λ before clean stands is. let s = closed before clean stands is in (s.0, (s.1, λ open_still. absurd (open_still s.0.0))))
+    (λ before clean stands fault is. let s = failed before clean stands fault is in
+    (s.0, (s.1, λ open_still. absurd (shuts (ap is_of_store is) open_still))))
+    (λ before clean stands is. let s = memory before clean stands is in (s.0, (s.1, λ open_still. refl)))
+    (λ before clean stands of_machine other. let s = refused before clean stands of_machine other in (s.0, (s.1, λ open_still. refl)))
+
+-- an office whose store refused is closed after it, whether it was closed before or not
+pub store-shuts : {X Y : Type 0} (is_closed : X → Type 0) (old new : X) (refusal : Refusal)
+    → (is_closed old → is_closed new) → (¬ (is_closed old) → StandsOn {X = Y} (is_closed new) (Err refusal))
+    → is_of_store refusal ≡ true → ¬ (¬ (is_closed new))
+store-shuts is_closed old new refusal shut on is open_still =
+    open_still ((on (λ was. open_still (shut was))).ends is)
 
 -- ---- what is answered
 
@@ -170,11 +197,14 @@ pub found-leads : {X : Type 0} (is_clean is_closed : X → Type 0) (stands_at : 
     → ((machine : Machine) → is_clean new → stands_at old machine → found ≡ Err Memory → (has_malformed_name query ≡ false) × stands_at new machine)
     → ((machine : Machine) → is_clean new → stands_at old machine → found ≡ Err Closed → is_closed new × stands_at new machine)
     → ((machine : Machine) → is_clean new → stands_at old machine → (fault : StoreFault) → found ≡ Err (Store fault) → leaves new machine machine fault)
-    → Leads is_clean is_closed stands_at leaves old new (λ before after standing. IsQueryAnswer before query (response after) standing)
-found-leads is_clean is_closed stands_at leaves old new query (Ok answer) response said answered refused memory closed store = λ before clean stands.
-    let done = answered before clean stands in (before, Open, done.1, found-answered before query answer (response before) done.0 (said before))
-found-leads is_clean is_closed stands_at leaves old new query (Err refusal) response said answered refused memory closed store =
-    refusal-leads is_clean is_closed stands_at leaves old new (λ before after standing. IsQueryAnswer before query (response after) standing) refusal (λ fault. Failed fault)
+    → (is_closed old → is_closed new) → (¬ (is_closed old) → StandsOn (is_closed new) found)
+    → LeadsOn is_clean is_closed stands_at leaves old new (λ before after standing. IsQueryAnswer before query (response after) standing)
+found-leads is_clean is_closed stands_at leaves old new query (Ok answer) response said answered refused memory closed store shut on = λ before clean stands.
+    let done = answered before clean stands in
+    (before, Open, done.1, (found-answered before query answer (response before) done.0 (said before), λ open_still. refl))
+found-leads is_clean is_closed stands_at leaves old new query (Err refusal) response said answered refused memory closed store shut on =
+    refusal-leads_on is_clean is_closed stands_at leaves old new (λ before after standing. IsQueryAnswer before query (response after) standing) refusal (λ fault. Failed fault)
+    (store-shuts is_closed old new refusal shut on)
     (λ before clean stands is. (closed before clean stands (ap Err is), inr (inl (said-as over_http before (response before) is (said before), refl))))
     (λ before clean stands fault is. (store before clean stands fault (ap Err is), inr (inr (fault, said-as over_http before (response before) is (said before), refl))))
     (λ before clean stands is. let wants = memory before clean stands (ap Err is) in

@@ -6,7 +6,8 @@ use Rattle.wb_states.specs.Machine.{Machine}
 use Rattle.wb_states.specs.declared.command.Command.{Command}
 use Rattle.wb_states.specs.declared.refusal.Refusal.{Refusal}
 use Rattle.wb_states.specs.declared.refusal.Refusal.TheVariants.{UnknownArch, UnknownBuilder, WrongArch, UnknownSource, OtherVersion, WrongState, QueueEmpty, NotHeld, AfterAhead, AlreadyThere, BadName, BadVersion, BadRelations, BadNumber, BadListing, BadReport, TextTooLong, Spent, RepeatedArch, Closed, Store, Memory}
-use Rattle.wb_step.specs.Offices.{Accepts, Standing, Open, InDoubt, Failed}
+use Rattle.wb_states.specs.declared.store_fault.StoreFault.{StoreFault}
+use Rattle.wb_step.specs.Offices.{Accepts, Leads, Standing, Open, InDoubt, Failed}
 use Rattle.wb_states.specs.Queries.{has_malformed_name}
 use Rattle.wb_api.specs.Memory.{MayLackMemory}
 use Rattle.wb_api.specs.Responses.{Form, IsRefusedByStore, Response, command_response, memory_response, query_response}
@@ -83,6 +84,12 @@ IsQueryAnswer machine query response standing =
 abbrev pub IsAnswer : Machine → Request → Response → Standing → Type 0
 IsAnswer machine (request.Command command) response standing = IsCommandAnswer machine command response standing
 IsAnswer machine (request.Query query) response standing = IsQueryAnswer machine query response standing
+
+-- the office came to a state of which this is so, and it stands open there unless it is closed now
+abbrev pub LeadsOn : {X : Type 0} → (X → Type 0) → (X → Type 0) → (X → Machine → Type 0)
+    → (X → Machine → Machine → StoreFault → Type 0) → X → X → (Machine → Machine → Standing → Type 0) → Type 0
+LeadsOn is_clean is_closed stands_at leaves old new IsSo = Leads is_clean is_closed stands_at leaves old new
+    (λ before after standing. IsSo before after standing × (¬ (is_closed new) → standing ≡ Open))
 
 -- ---- what is written, and what an exchange does
 

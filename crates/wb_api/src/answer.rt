@@ -1,9 +1,9 @@
 //! The answer to one request, before it is written.
 ghost use Rattle.std.specs.Prelude.{◌≡◌, IfSome, None};
 ghost use Rattle.wb_states.specs.Machine.{Machine};
-ghost use Rattle.wb_step.specs.Offices.{Accepts, Leads, Reaches};
+ghost use Rattle.wb_step.specs.Offices.{Accepts, Reaches};
 ghost use Rattle.wb_api.specs.Responses.{IsRefusal, memory_response};
-ghost use Rattle.wb_api.specs.Exchange.{fault_response, IsCommandAnswer, response_of_answer, over_http};
+ghost use Rattle.wb_api.specs.Exchange.{fault_response, IsCommandAnswer, LeadsOn, response_of_answer, over_http};
 
 use crate::encode::reply_json;
 use crate::refusal::{refusal_json, try_refusal_json};
@@ -64,7 +64,7 @@ pub(crate) fn answer_command<O: CarryOut>(
     command: &Command,
 ) -> Option<HttpAnswer>
     ensures clean { O.is_clean office.new → O.is_clean office.old }
-    ensures value { IfSome result (λ answer. Leads O.is_clean O.is_closed O.stands_at O.leaves
+    ensures value { IfSome result (λ answer. LeadsOn O.is_clean O.is_closed O.stands_at O.leaves
         office.old office.new (λ before after standing. IsCommandAnswer before
         command.now (response_of_answer answer after) standing)) }
     ensures memory { result ≡ None → Reaches O.is_clean O.stands_at office.old office.new

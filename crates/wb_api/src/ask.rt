@@ -1,8 +1,7 @@
 //! The answer of the office to a query.
-ghost use Rattle.wb_step.specs.Offices.{Leads};
 ghost use Rattle.wb_states.specs.Machine.{Machine};
 ghost use Rattle.wb_api.specs.Responses.{IsFoundAnswer};
-ghost use Rattle.wb_api.specs.Exchange.{IsQueryAnswer, over_http, response_of_answer};
+ghost use Rattle.wb_api.specs.Exchange.{IsQueryAnswer, LeadsOn, over_http, response_of_answer};
 
 use crate::answer::{HttpAnswer, memory_answer, refusal_answer};
 use crate::query::query_json;
@@ -32,7 +31,7 @@ fn found_answer(alloc: Global, found: Result<Answer, Refusal>) -> HttpAnswer
 /// The answer of the office to a query.
 pub(crate) fn answer_query<O: CarryOut>(alloc: Global, office: &mut O, query: &Query) -> HttpAnswer
     ensures clean { O.is_clean office.new → O.is_clean office.old }
-    ensures value { Leads O.is_clean O.is_closed O.stands_at O.leaves office.old office.new
+    ensures value { LeadsOn O.is_clean O.is_closed O.stands_at O.leaves office.old office.new
         (λ before after standing. IsQueryAnswer before query.now (response_of_answer result after) standing) }
 {
     let found = office.ask(query);

@@ -10,7 +10,8 @@ ghost use Rattle.wb_api.specs.declared.request.Received.TheVariants.{Asked};
 ghost use Rattle.wb_api.specs.declared.request.Received.{Received as AnyReceived};
 ghost use Rattle.wb_api.specs.declared.request.Request.TheVariants.{Command as asked_Command};
 ghost use Rattle.wb_streams.specs.Streams.{Flags};
-ghost use Rattle.wb_api.specs.Exchange.{Exchanges, fails_to_write, is_asked, IsAnswer, is_silent, Receives, Responds, response_of_answer, Sends, TellsOk};
+ghost use Rattle.wb_api.specs.Exchange.{Exchanges, fails_to_write, is_asked, IsAnswer, is_silent, LeadsOn, Receives};
+ghost use Rattle.wb_api.specs.Exchange.{Responds, response_of_answer, Sends, TellsOk};
 
 use crate::answer::{HttpAnswer, answer_command, fault_answer, memory_answer};
 use crate::ask::answer_query;
@@ -51,7 +52,7 @@ fn answer_request<O: CarryOut>(
     request: &Request,
 ) -> Option<HttpAnswer>
     ensures clean { O.is_clean office.new → O.is_clean office.old }
-    ensures value { IfSome result (λ answer. Leads O.is_clean O.is_closed O.stands_at O.leaves
+    ensures value { IfSome result (λ answer. LeadsOn O.is_clean O.is_closed O.stands_at O.leaves
         office.old office.new (λ before after standing. IsAnswer before
         request.now (response_of_answer answer after) standing)) }
     ensures memory { result ≡ None → Reaches O.is_clean O.stands_at office.old office.new
@@ -87,7 +88,7 @@ fn respond<O: CarryOut, W: Write + Drop>(
     writer: &mut WatchedWriter<W>,
 ) -> Served
     ensures clean { O.is_clean office.new → O.is_clean office.old }
-    ensures value { Leads O.is_clean O.is_closed O.stands_at O.leaves office.old office.new
+    ensures value { LeadsOn O.is_clean O.is_closed O.stands_at O.leaves office.old office.new
         (λ before after standing. Responds request.now before after standing
         writer.old.bytes writer.new.bytes result) }
     ensures silent { is_silent result ≡ true → writer.new.bytes ≡ writer.old.bytes }
@@ -110,7 +111,7 @@ fn exchange<O: CarryOut, R: Read + Drop, W: Write + Drop>(
     ensures clean { O.is_clean office.new → O.is_clean office.old }
     ensures value { (received : AnyReceived) × Receives reader.old reader.new received
         × (is_asked received ≡ false → office.new ≡ office.old)
-        × Leads O.is_clean O.is_closed O.stands_at O.leaves office.old office.new
+        × LeadsOn O.is_clean O.is_closed O.stands_at O.leaves office.old office.new
         (λ before after standing. Exchanges received before after standing
         writer.old.bytes writer.new.bytes result) }
     ensures silent { is_silent result ≡ true → writer.new.bytes ≡ writer.old.bytes }
@@ -149,6 +150,12 @@ pub fn serve_one<O: CarryOut, R: Read + Drop, W: Write + Drop>(
         × Leads O.is_clean O.is_closed O.stands_at O.leaves office.old office.new
         (λ before after standing. Exchanges received before after standing
         writer.old.bytes writer.new.bytes result) }
+    // the same, and an office that is not closed after it stands open at the state after it
+    ensures goes_on { (received : AnyReceived) × Receives reader.old reader.new received
+        × (is_asked received ≡ false → office.new ≡ office.old)
+        × LeadsOn O.is_clean O.is_closed O.stands_at O.leaves office.old office.new
+        (λ before after standing. Exchanges received before after standing
+        writer.old.bytes writer.new.bytes result) }
     // what an answer with status 200 to a command says, or a front of one
     ensures acknowledged { (before : Machine) (input : List ℕ) (command : AnyCommand)
         → O.is_clean office.new → O.stands_at office.old before → reader.old.bytes ≡ Some input
@@ -174,7 +181,7 @@ pub fn answer_of<O: CarryOut>(
     ensures clean { O.is_clean office.new → O.is_clean office.old }
     ensures value { (received : AnyReceived) × Means request.now received
         × (is_asked received ≡ false → office.new ≡ office.old)
-        × Leads O.is_clean O.is_closed O.stands_at O.leaves office.old office.new
+        × LeadsOn O.is_clean O.is_closed O.stands_at O.leaves office.old office.new
         (λ before after standing. Exchanges received before after standing
         (Some []) (Some result.1.items) result.0) }
 {

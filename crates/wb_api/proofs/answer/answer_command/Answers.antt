@@ -5,7 +5,7 @@ use Rattle.wb_step.specs.Offices.{InDoubt, Open}
 use Rattle.wb_step.specs.Step.{step}
 use Rattle.wb_api.specs.Encoding.{reply_text}
 use Rattle.wb_api.specs.Exchange.{IsCommandAnswer, over_http, response_of_answer}
-use Rattle.wb_api.proofs.ExchangeLemmas.{memory-answered, refusal-answered, refusal-leads, repeat-answered, reply-answered}
+use Rattle.wb_api.proofs.ExchangeLemmas.{memory-answered, refusal-answered, refusal-leads_on, repeat-answered, reply-answered, store-shuts}
 use Rattle.wb_api.proofs.ResponseLemmas.{said-as}
 use Rattle.wb_api.proofs.answer.answer_command.Goals as goal
 
@@ -15,8 +15,11 @@ returns-in-Ok-reply_json-clause-value g c = λ before clean stands.
       (step before c.args.command.now).1,
       Open,
       done.1,
-      reply-answered before c.args.command.now c.in-Ok.reply _ done.0
-          (c.in-Ok-reply_json.ensures.value ∙ ap (λ name. reply_text name c.in-Ok.reply) c.name.ensures.value),
+      (
+        reply-answered before c.args.command.now c.in-Ok.reply _ done.0
+            (c.in-Ok-reply_json.ensures.value ∙ ap (λ name. reply_text name c.in-Ok.reply) c.name.ensures.value),
+        λ open_still. refl,
+      ),
     )
 
 pub returns-in-Err-reply_json-clause-value : goal.returns-in-Err-reply_json-clause-value
@@ -28,7 +31,10 @@ returns-in-Err-reply_json-clause-value g c = λ before clean stands.
       before,
       Open,
       subst (λ machine. g.O.CarryOut.stands_at c.carry_out.new.self machine) same done.1,
-      repeat-answered before c.args.command.now c.in-Ok.reply _ done.0 same (c.memory_answer.ensures.value before),
+      (
+        repeat-answered before c.args.command.now c.in-Ok.reply _ done.0 same (c.memory_answer.ensures.value before),
+        λ open_still. refl,
+      ),
     )
 
 pub returns-in-Ok-clause-memory : goal.returns-in-Ok-clause-memory
@@ -47,8 +53,9 @@ returns-clause-value g c =
     let said = c.refusal_answer.ensures.value in
     let response = response_of_answer c.refusal_answer.result in
     let e = c.in-Err.ensures in
-    refusal-leads g.O.CarryOut.is_clean g.O.CarryOut.is_closed g.O.CarryOut.stands_at g.O.CarryOut.leaves c.args.office.now c.carry_out.new.self
+    refusal-leads_on g.O.CarryOut.is_clean g.O.CarryOut.is_closed g.O.CarryOut.stands_at g.O.CarryOut.leaves c.args.office.now c.carry_out.new.self
     (λ before after standing. IsCommandAnswer before c.args.command.now (response after) standing) c.in-Err.refusal (InDoubt c.args.command.now)
+    (store-shuts g.O.CarryOut.is_closed c.args.office.now c.carry_out.new.self c.in-Err.refusal (λ was. (e.shut was).1) e.stands)
     (λ before clean stands is. (e.closed before clean stands (ap Err is), inr (inl (said-as over_http before (response before) is (said before), refl))))
     (λ before clean stands fault is. (e.store before clean stands fault (ap Err is), inr (inr (fault, said-as over_http before (response before) is (said before), refl))))
     (λ before clean stands is. let wants = e.memory before clean stands (ap Err is) in

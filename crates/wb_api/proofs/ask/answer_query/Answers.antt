@@ -8,4 +8,4 @@ returns-clause-value g c =
     let e = c.ask-found.ensures in
     found-leads g.O.CarryOut.is_clean g.O.CarryOut.is_closed g.O.CarryOut.stands_at g.O.CarryOut.leaves c.args.office.now c.ask-found.new.self
     c.args.query.now c.ask-found.result (response_of_answer c.found_answer.result) c.found_answer.ensures.value
-    e.answer e.refused e.memory e.closed e.store
+    e.answer e.refused e.memory e.closed e.store (λ was. (e.shut was).1) e.stands

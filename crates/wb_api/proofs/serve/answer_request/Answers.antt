@@ -1,13 +1,12 @@
 -- What may be answered to what was asked may be answered to the request.
 use Rattle.std.proofs.Common.{IfSome, subst, sym}
-use Rattle.wb_step.specs.Offices.{Leads}
-use Rattle.wb_api.specs.Exchange.{IsAnswer, response_of_answer}
+use Rattle.wb_api.specs.Exchange.{IsAnswer, LeadsOn, response_of_answer}
 use Rattle.wb_api.proofs.serve.answer_request.Goals as goal
 
 pub returns-in-Command-clause-value : goal.returns-in-Command-clause-value
 returns-in-Command-clause-value g c =
     subst (λ asked. IfSome c.answer_command.result (λ answer.
-    Leads g.O.CarryOut.is_clean g.O.CarryOut.is_closed g.O.CarryOut.stands_at g.O.CarryOut.leaves c.args.office.now c.answer_command.new.office (λ before after standing.
+    LeadsOn g.O.CarryOut.is_clean g.O.CarryOut.is_closed g.O.CarryOut.stands_at g.O.CarryOut.leaves c.args.office.now c.answer_command.new.office (λ before after standing.
     IsAnswer before asked (response_of_answer answer after) standing))) (sym c.in-Command.is) c.answer_command.ensures.value
 
 pub returns-in-Command-clause-memory : goal.returns-in-Command-clause-memory
@@ -18,5 +17,5 @@ returns-in-Command-clause-memory g c = λ e before clean stands.
 pub returns-in-Query-clause-value : goal.returns-in-Query-clause-value
 returns-in-Query-clause-value g c =
     subst (λ asked.
-    Leads g.O.CarryOut.is_clean g.O.CarryOut.is_closed g.O.CarryOut.stands_at g.O.CarryOut.leaves c.args.office.now c.answer_query.new.office (λ before after standing.
+    LeadsOn g.O.CarryOut.is_clean g.O.CarryOut.is_closed g.O.CarryOut.stands_at g.O.CarryOut.leaves c.args.office.now c.answer_query.new.office (λ before after standing.
     IsAnswer before asked (response_of_answer c.answer_query.result after) standing)) (sym c.in-Query.is) c.answer_query.ensures.value

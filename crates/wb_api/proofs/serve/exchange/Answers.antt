@@ -11,7 +11,7 @@ returns-in-Nothing-clause-value g c = (
   received.Nothing,
   record { value = c.in-Nothing.ensures.value; failed = c.in-Nothing.ensures.failed; front = c.in-Nothing.ensures.front; bound = c.in-Nothing.ensures.bound; memory = c.in-Nothing.ensures.memory },
   λ _. refl,
-  λ before clean stands. (before, Open, stands, (refl, refl, refl, refl)),
+  λ before clean stands. (before, Open, stands, ((refl, refl, refl, refl), λ open_still. refl)),
 )
 
 pub returns-in-Failed-clause-value : goal.returns-in-Failed-clause-value
@@ -19,7 +19,7 @@ returns-in-Failed-clause-value g c = (
   received.Failed,
   record { value = c.in-Failed.ensures.value; failed = c.in-Failed.ensures.failed; front = c.in-Failed.ensures.front; bound = c.in-Failed.ensures.bound; memory = c.in-Failed.ensures.memory },
   λ _. refl,
-  λ before clean stands. (before, Open, stands, (refl, refl, refl, refl)),
+  λ before clean stands. (before, Open, stands, ((refl, refl, refl, refl), λ open_still. refl)),
 )
 
 pub returns-in-Memory-clause-value : goal.returns-in-Memory-clause-value
@@ -29,7 +29,7 @@ returns-in-Memory-clause-value g c = (
   λ _. refl,
   λ before clean stands.
       let sent = subst (λ response. Sends response c.args.writer.now.bytes c.send.new.writer.bytes c.send.result) (c.memory_answer.ensures.value before) (c.send.ensures.value before) in
-      (before, Open, stands, (refl, refl, sent)),
+      (before, Open, stands, ((refl, refl, sent), λ open_still. refl)),
 )
 
 pub returns-in-Memory-clause-silent : goal.returns-in-Memory-clause-silent
@@ -43,7 +43,7 @@ returns-in-Refused-clause-value g c = (
   λ before clean stands.
       let sent = subst (λ response. Sends response c.args.writer.now.bytes c.send-in-Refused.new.writer.bytes c.send-in-Refused.result)
       (c.fault_answer.ensures.value before) (c.send-in-Refused.ensures.value before) in
-      (before, Open, stands, (refl, refl, sent)),
+      (before, Open, stands, ((refl, refl, sent), λ open_still. refl)),
 )
 
 pub returns-in-Refused-clause-silent : goal.returns-in-Refused-clause-silent

@@ -7,8 +7,12 @@ use Rattle.wb_api.proofs.serve.respond.Goals as goal
 
 pub returns-in-Some-clause-value : goal.returns-in-Some-clause-value
 returns-in-Some-clause-value g c = λ before clean stands.
-    let done = c.in-Some.ensures.value before clean stands in
-    (done.0, done.1, done.2, inl (response_of_answer c.in-Some.answer done.0, done.3, refl, c.send.ensures.value done.0))
+    let done = c.in-Some.ensures.value before clean stands in (
+      done.0,
+      done.1,
+      done.2,
+      (inl (response_of_answer c.in-Some.answer done.0, done.3.0, refl, c.send.ensures.value done.0), done.3.1),
+    )
 
 pub returns-in-Some-clause-silent : goal.returns-in-Some-clause-silent
 returns-in-Some-clause-silent g c = λ silent. absurd (false≢true (sym c.send.ensures.spoken ∙ silent))
@@ -16,4 +20,4 @@ returns-in-Some-clause-silent g c = λ silent. absurd (false≢true (sym c.send.
 pub returns-in-None-clause-value : goal.returns-in-None-clause-value
 returns-in-None-clause-value g c = λ before clean stands.
     let done = c.in-None.ensures.memory refl before clean stands in
-    (done.0, Open, done.1, inr (done.2.0, done.2.1, done.2.2, refl, refl, refl))
+    (done.0, Open, done.1, (inr (done.2.0, done.2.1, done.2.2, refl, refl, refl), λ open_still. refl))

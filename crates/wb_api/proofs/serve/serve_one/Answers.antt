@@ -13,6 +13,14 @@ returns-clause-acknowledged g c = λ before input command clean stands known ask
     let decided = head_decides input asks.0 asks.1 served.0 asks.2 means in
     let answers = subst (λ what. Answers what served.0) asks.3 decided in
     let did = served.3 before clean stands in
-    let done = exchange-done served.0 before did.0 did.1 _ _ c.exchange.result command did.3 answers tells in
+    let done = exchange-done served.0 before did.0 did.1 _ _ c.exchange.result command did.3.0 answers tells in
     let open_still = subst (λ standing. Stands g.O.CarryOut.is_closed g.O.CarryOut.stands_at g.O.CarryOut.leaves c.exchange.new.office did.0 standing) done.2 did.2 in
     (done.0, subst (λ machine. g.O.CarryOut.stands_at c.exchange.new.office machine) done.1 open_still)
+
+pub returns-clause-value : goal.returns-clause-value
+returns-clause-value g c =
+    let served = c.exchange.ensures.value in
+    (served.0, served.1, served.2, λ before clean stands. let did = served.3 before clean stands in (did.0, did.1, did.2, did.3.0))
+
+pub returns-clause-goes_on : goal.returns-clause-goes_on
+returns-clause-goes_on g c = c.exchange.ensures.value
