@@ -3,12 +3,15 @@ use Rattle.std.proofs.Common.{◌≡◌, ◌∙◌, refl, sym, ap, Bool, true, f
 use Rattle.std.specs.Prelude.{codes, is_some, option_and_then}
 use Rattle.std.proofs.Math.Bool.{and-true}
 use Rattle.serde_json.specs.Data.{Data}
-use Rattle.wb_api.specs.Commands.{Named, command_in, attempted_in, build_priority_in, dep_wait_in, fail_in}
+use Rattle.wb_api.specs.Commands.{Named, add_arch_in, add_builder_in, attempted_in, build_priority_in, command_in}
+use Rattle.wb_api.specs.Commands.{dep_wait_in, enter_in, fail_in}
 use Rattle.wb_api.specs.Commands.{give_back_in, integer_in, next_in, not_for_us_in, number_in, number_or_none_in}
 use Rattle.wb_api.specs.Commands.{rebuild_in, report_in, named_source_in, take_in, text_in, waits_in}
 use Rattle.wb_api.specs.Keys.{has_keys, keys_of}
 use Rattle.wb_api.specs.declared.route.CommandKind.{CommandKind}
-use Rattle.wb_api.specs.declared.route.CommandKind.TheVariants.{Next, Take, Built, Uploaded, Waits, PutBack, Attempted, GiveBack, DepWait, Fail, NotForUs, Rebuild, BuildPriority, Report}
+use Rattle.wb_api.specs.declared.route.CommandKind.TheVariants.{AddArch, AddBuilder, Enter, Next, Take, Built, Uploaded}
+use Rattle.wb_api.specs.declared.route.CommandKind.TheVariants.{Waits, PutBack, Attempted, GiveBack, DepWait, Fail}
+use Rattle.wb_api.specs.declared.route.CommandKind.TheVariants.{NotForUs, Rebuild, BuildPriority, Report}
 
 -- what is made of a value is there if the value is
 is_some-map : {X Y : Type 0} (f : X → Y) (o : Option X) → is_some (option_map f o) ≡ is_some o
@@ -47,6 +50,21 @@ after-subject body f rest follows =
     is_some-then f rest (named_source_in body) follows
     ∙ ap (λ (named : Bool). named && rest) (is_some-subject body)
     ∙ and-assoc3 (is_some (text_in (codes "arch") body)) (is_some (text_in (codes "source") body)) (is_some (text_in (codes "version") body)) rest
+
+add_arch : (body : Data) → is_some (add_arch_in body) ≡ has_keys (keys_of AddArch) body
+unfolding add_arch_in
+add_arch body =
+    is_some-then _ _ (text_in (codes "name") body) (λ name.
+    is_some-then _ _ (text_in (codes "os") body) (λ os. is_some-last _ (text_in (codes "cpu") body)))
+
+add_builder : (body : Data) → is_some (add_builder_in body) ≡ has_keys (keys_of AddBuilder) body
+unfolding add_builder_in
+add_builder body = is_some-then _ _ (text_in (codes "name") body) (λ name. is_some-last _ (text_in (codes "arch") body))
+
+enter : (body : Data) → is_some (enter_in body) ≡ has_keys (keys_of Enter) body
+unfolding enter_in
+enter body = after-subject body _ _ (λ subject.
+    is_some-then _ _ (text_in (codes "priority") body) (λ priority. is_some-last _ (text_in (codes "section") body)))
 
 next : (body : Data) → is_some (next_in body) ≡ has_keys (keys_of Next) body
 unfolding next_in
@@ -98,6 +116,9 @@ unfolding report_in
 report body = is_some-then _ _ (text_in (codes "arch") body) (λ arch. is_some-last _ (text_in (codes "text") body))
 
 pub is_some-command : (kind : CommandKind) (body : Data) → is_some (command_in kind body) ≡ has_keys (keys_of kind) body
+is_some-command AddArch body = add_arch body
+is_some-command AddBuilder body = add_builder body
+is_some-command Enter body = enter body
 is_some-command Next body = next body
 is_some-command Take body = take body
 is_some-command Built body = is_some-last _ (number_in (codes "take") body)

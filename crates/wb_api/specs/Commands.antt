@@ -10,7 +10,9 @@ use Rattle.wb_api.specs.declared.command.NamedSource.{NamedSource}
 use Rattle.wb_streams.specs.declared.fault.Fault.{Fault}
 use Rattle.wb_streams.specs.declared.fault.Fault.TheVariants.{BadBody}
 use Rattle.wb_api.specs.declared.route.CommandKind.{CommandKind}
-use Rattle.wb_api.specs.declared.route.CommandKind.TheVariants.{Next, Take, Built, Uploaded, Waits, PutBack, Attempted, GiveBack, DepWait, Fail, NotForUs, Rebuild, BuildPriority, Report}
+use Rattle.wb_api.specs.declared.route.CommandKind.TheVariants.{AddArch, AddBuilder, Enter, Next, Take, Built, Uploaded}
+use Rattle.wb_api.specs.declared.route.CommandKind.TheVariants.{Waits, PutBack, Attempted, GiveBack, DepWait, Fail}
+use Rattle.wb_api.specs.declared.route.CommandKind.TheVariants.{NotForUs, Rebuild, BuildPriority, Report}
 
 -- the text under a key
 abbrev pub text_in : List ℕ → Data → Option (List ℕ)
@@ -60,6 +62,23 @@ unfoldable pub named_source_in : Data → Option Named
 named_source_in body = option_and_then (λ arch. option_and_then (λ source. option_map (λ version.
     record { arch = arch; source = source; version = version })
     (text_in (codes "version") body)) (text_in (codes "source") body)) (text_in (codes "arch") body)
+
+-- to add an architecture
+unfoldable pub add_arch_in : Data → Option Command
+add_arch_in body = option_and_then (λ name. option_and_then (λ os. option_map (λ cpu.
+    form.AddArch name os cpu)
+    (text_in (codes "cpu") body)) (text_in (codes "os") body)) (text_in (codes "name") body)
+
+-- to let a builder build for an architecture
+unfoldable pub add_builder_in : Data → Option Command
+add_builder_in body = option_and_then (λ name. option_map (λ arch. form.AddBuilder name arch)
+    (text_in (codes "arch") body)) (text_in (codes "name") body)
+
+-- to enter a source package
+unfoldable pub enter_in : Data → Option Command
+enter_in body = option_and_then (λ subject. option_and_then (λ priority. option_map (λ section.
+    form.Enter subject.arch subject.source subject.version priority section)
+    (text_in (codes "section") body)) (text_in (codes "priority") body)) (named_source_in body)
 
 -- to ask for the next source package to build
 unfoldable pub next_in : Data → Option Command
@@ -124,6 +143,9 @@ report_in body = option_and_then (λ arch. option_map (λ text. form.Report arch
 
 -- the command of this kind that a body gives
 abbrev pub command_in : CommandKind → Data → Option Command
+command_in AddArch body = add_arch_in body
+command_in AddBuilder body = add_builder_in body
+command_in Enter body = enter_in body
 command_in Next body = next_in body
 command_in Take body = take_in body
 command_in Built body = option_map (λ take_number. form.Built take_number) (number_in (codes "take") body)

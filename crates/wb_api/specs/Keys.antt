@@ -4,7 +4,9 @@ use Rattle.std.specs.Prelude.{ℕ, List, [], ◌∷◌, ◌++◌, Bool, true, �
 use Rattle.serde_json.specs.Data.{Data, Members, member, no_members, null, object, put, array, boolean, number, string}
 use Rattle.wb_api.specs.Commands.{integer_in, number_in, number_or_none_in, text_in}
 use Rattle.wb_api.specs.declared.route.CommandKind.{CommandKind}
-use Rattle.wb_api.specs.declared.route.CommandKind.TheVariants.{Next, Take, Built, Uploaded, Waits, PutBack, Attempted, GiveBack, DepWait, Fail, NotForUs, Rebuild, BuildPriority, Report}
+use Rattle.wb_api.specs.declared.route.CommandKind.TheVariants.{AddArch, AddBuilder, Enter, Next, Take, Built, Uploaded}
+use Rattle.wb_api.specs.declared.route.CommandKind.TheVariants.{Waits, PutBack, Attempted, GiveBack, DepWait, Fail}
+use Rattle.wb_api.specs.declared.route.CommandKind.TheVariants.{NotForUs, Rebuild, BuildPriority, Report}
 
 -- what a key has: a text, a whole number, a whole number that may be null or missing, or an integer
 pub data Shape : Type 0 where
@@ -32,6 +34,9 @@ named = text (codes "arch") ∷ text (codes "source") ∷ text (codes "version")
 
 -- the table: the keys of each command, in the order in which they are read
 abbrev pub keys_of : CommandKind → List Key
+keys_of AddArch = text (codes "name") ∷ text (codes "os") ∷ text (codes "cpu") ∷ []
+keys_of AddBuilder = text (codes "name") ∷ text (codes "arch") ∷ []
+keys_of Enter = named ++ text (codes "priority") ∷ text (codes "section") ∷ []
 keys_of Next = text (codes "arch") ∷ text (codes "builder") ∷ record { name = codes "after"; shape = NumberOrNull } ∷ []
 keys_of Take = named ++ text (codes "builder") ∷ []
 keys_of Built = whole (codes "take") ∷ []

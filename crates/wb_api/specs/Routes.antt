@@ -15,7 +15,9 @@ use Rattle.percent_encoding.specs.Percent.{percent_decode}
 use Rattle.wb_streams.specs.declared.fault.Fault.{Fault}
 use Rattle.wb_streams.specs.declared.fault.Fault.TheVariants.{BadPath}
 use Rattle.wb_api.specs.declared.route.CommandKind.{CommandKind}
-use Rattle.wb_api.specs.declared.route.CommandKind.TheVariants.{Next, Take, Built, Uploaded, Waits, PutBack, Attempted, GiveBack, DepWait, Fail, NotForUs, Rebuild, BuildPriority, Report}
+use Rattle.wb_api.specs.declared.route.CommandKind.TheVariants.{AddArch, AddBuilder, Enter, Next, Take, Built, Uploaded}
+use Rattle.wb_api.specs.declared.route.CommandKind.TheVariants.{Waits, PutBack, Attempted, GiveBack, DepWait, Fail}
+use Rattle.wb_api.specs.declared.route.CommandKind.TheVariants.{NotForUs, Rebuild, BuildPriority, Report}
 use Rattle.wb_api.specs.declared.route.QueryKind.{QueryKind}
 use Rattle.wb_api.specs.declared.route.QueryKind.TheVariants as query_kind
 use Rattle.wb_api.specs.declared.route.Route.{Route}
@@ -39,11 +41,14 @@ query_path front parts kind = record { front = front; parts = parts; route = rou
 
 -- the paths that are served
 abbrev pub paths : List Path
-paths = command_path (codes "/v1/attempted") Attempted
+paths = command_path (codes "/v1/add-arch") AddArch
+    ∷ command_path (codes "/v1/add-builder") AddBuilder
+    ∷ command_path (codes "/v1/attempted") Attempted
     ∷ command_path (codes "/v1/build-priority") BuildPriority
     ∷ command_path (codes "/v1/built") Built
     ∷ command_path (codes "/v1/dep-wait") DepWait
     ∷ query_path (codes "/v1/depends/") 2 query_kind.Depends
+    ∷ command_path (codes "/v1/enter") Enter
     ∷ command_path (codes "/v1/fail") Fail
     ∷ command_path (codes "/v1/give-back") GiveBack
     ∷ query_path (codes "/v1/item/") 2 query_kind.Item
@@ -132,7 +137,10 @@ all_fit rows ((path, route) ∷ rest) = fits rows (parse_route path) && all_fit 
 -- the paths and what each is for
 abbrev pub table : List (List ℕ × Route)
 table =
-    (codes "/v1/next", route.Command Next)
+    (codes "/v1/add-arch", route.Command AddArch)
+    ∷ (codes "/v1/add-builder", route.Command AddBuilder)
+    ∷ (codes "/v1/enter", route.Command Enter)
+    ∷ (codes "/v1/next", route.Command Next)
     ∷ (codes "/v1/take", route.Command Take)
     ∷ (codes "/v1/built", route.Command Built)
     ∷ (codes "/v1/uploaded", route.Command Uploaded)

@@ -2,7 +2,9 @@
 //! any of it is copied, so that a key that is missing is never reported as out of memory.
 ghost use Rattle.std.specs.Prelude.{◌≡◌, codes, Err, IfOk, IfSome, IsSome, OnErr, option_map};
 ghost use Rattle.serde_json.specs.View.{view};
-ghost use Rattle.wb_api.specs.Commands.{attempted_in, build_priority_in, command_in, command_of, dep_wait_in, fail_in};
+ghost use Rattle.wb_api.specs.Commands.{add_arch_in, add_builder_in, attempted_in};
+ghost use Rattle.wb_api.specs.Commands.{build_priority_in, command_in, command_of, dep_wait_in};
+ghost use Rattle.wb_api.specs.Commands.{enter_in, fail_in};
 ghost use Rattle.wb_api.specs.Commands.{give_back_in, integer_in, json_of, next_in, not_for_us_in, number_in, or_bad_body};
 ghost use Rattle.wb_api.specs.Commands.{number_or_none_in, rebuild_in, report_in, named_source_in, take_in, text_in, waits_in};
 ghost use Rattle.wb_api.specs.Commands.{IsText, named_source_of};
@@ -81,6 +83,67 @@ fn named_source_in(body: &Value) -> Option<NamedSource<'_>>
         source,
         version,
     })
+}
+
+#[tactic(auto, unfolding(crate::specs::Commands::add_arch_in))]
+fn add_arch_in(alloc: Global, body: &Value) -> Result<Option<Command>, AllocError>
+    ensures value { IfOk result (λ command. command ≡ add_arch_in (view body.now)) }
+    ensures memory { OnErr result (IsSome (add_arch_in (view body.now))) }
+{
+    let Some(name) = text_in("name", body) else {
+        return Ok(None);
+    };
+    let Some(os) = text_in("os", body) else {
+        return Ok(None);
+    };
+    let Some(cpu) = text_in("cpu", body) else {
+        return Ok(None);
+    };
+    Ok(Some(Command::AddArch(command::AddArch {
+        name: Text::copied(alloc, name)?,
+        os: Text::copied(alloc, os)?,
+        cpu: Text::copied(alloc, cpu)?,
+    })))
+}
+
+#[tactic(auto, unfolding(crate::specs::Commands::add_builder_in))]
+fn add_builder_in(alloc: Global, body: &Value) -> Result<Option<Command>, AllocError>
+    ensures value { IfOk result (λ command. command ≡ add_builder_in (view body.now)) }
+    ensures memory { OnErr result (IsSome (add_builder_in (view body.now))) }
+{
+    let Some(name) = text_in("name", body) else {
+        return Ok(None);
+    };
+    let Some(arch) = text_in("arch", body) else {
+        return Ok(None);
+    };
+    Ok(Some(Command::AddBuilder(command::AddBuilder {
+        name: Text::copied(alloc, name)?,
+        arch: Text::copied(alloc, arch)?,
+    })))
+}
+
+#[tactic(auto, unfolding(crate::specs::Commands::enter_in))]
+fn enter_in(alloc: Global, body: &Value) -> Result<Option<Command>, AllocError>
+    ensures value { IfOk result (λ command. command ≡ enter_in (view body.now)) }
+    ensures memory { OnErr result (IsSome (enter_in (view body.now))) }
+{
+    let Some(subject) = named_source_in(body) else {
+        return Ok(None);
+    };
+    let Some(priority) = text_in("priority", body) else {
+        return Ok(None);
+    };
+    let Some(section) = text_in("section", body) else {
+        return Ok(None);
+    };
+    Ok(Some(Command::Enter(command::Enter {
+        arch: Text::copied(alloc, subject.arch)?,
+        source: Text::copied(alloc, subject.source)?,
+        version: Text::copied(alloc, subject.version)?,
+        priority: Text::copied(alloc, priority)?,
+        section: Text::copied(alloc, section)?,
+    })))
 }
 
 #[tactic(auto, unfolding(crate::specs::Commands::next_in))]
@@ -302,6 +365,9 @@ fn command_in(alloc: Global, kind: CommandKind, body: &Value) -> Result<Option<C
     ensures memory { OnErr result (IsSome (command_in kind (view body.now))) }
 {
     match kind {
+        CommandKind::AddArch => add_arch_in(alloc, body),
+        CommandKind::AddBuilder => add_builder_in(alloc, body),
+        CommandKind::Enter => enter_in(alloc, body),
         CommandKind::Next => next_in(alloc, body),
         CommandKind::Take => take_in(alloc, body),
         CommandKind::Built => Ok(held_in(body).map(Command::Built)),

@@ -8,7 +8,8 @@ ghost use Rattle.wb_api.specs.Queries.{query_text};
 ghost use Rattle.wb_api.specs.Encoding.{reply_text, refusal_text, memory_text, line_fault_text, file_fault_text};
 ghost use Rattle.httparse.specs.Grammar.{RequestHead};
 ghost use Rattle.httparse.specs.Spans.{name_and_value};
-ghost use Rattle.wb_states.specs.Forms.{Attempted, BuildPriority, Report};
+ghost use Rattle.wb_states.specs.Forms.{AddArch, AddBuilder, Attempted, BuildPriority, Enter};
+ghost use Rattle.wb_states.specs.Forms.{Report};
 ghost use Rattle.serde_json.specs.Data.{Data};
 ghost use Rattle.wb_api.specs.Commands.{command_in, value_in};
 ghost use Rattle.wb_api.specs.Keys.{has_keys, keys_of};
@@ -92,9 +93,30 @@ pub fn gets_are_queries()
     ensures post_of_query { posted (codes "/v1/queue/amd64") (codes "{}") ≡ Err WrongMethod }
 {}
 
-/// The report of a failed build, a build priority and the report of a whole architecture are commands, each with its own
-/// path and keys.
+/// What adds an architecture, a builder and a source package, the report of a failed build, a build
+/// priority and the report of a whole architecture are commands, each with its own path and keys.
 pub fn posts_are_commands()
+    // an architecture with the words of its system and its processor
+    ensures add_arch { posted (codes "/v1/add-arch")
+        (codes "{\"name\":\"armhf\",\"os\":\"linux\",\"cpu\":\"arm\"}")
+        ≡ Ok (Command (AddArch (codes "armhf") (codes "linux") (codes "arm"))) }
+    ensures no_cpu { posted (codes "/v1/add-arch") (codes "{\"name\":\"armhf\",\"os\":\"linux\"}")
+        ≡ Err BadBody }
+    // a builder for an architecture
+    ensures add_builder { posted (codes "/v1/add-builder")
+        (codes "{\"name\":\"b1\",\"arch\":\"amd64\"}")
+        ≡ Ok (Command (AddBuilder (codes "b1") (codes "amd64"))) }
+    ensures no_name { posted (codes "/v1/add-builder")
+        (codes "{\"builder\":\"b1\",\"arch\":\"amd64\"}") ≡ Err BadBody }
+    // a source package on an architecture, its version, its priority and its section
+    ensures enter { posted (codes "/v1/enter")
+        (codes "{\"arch\":\"amd64\",\"source\":\"hello\",\"version\":\"1.0-1\","
+        ++ codes "\"priority\":\"optional\",\"section\":\"devel\"}")
+        ≡ Ok (Command (Enter (codes "amd64") (codes "hello") (codes "1.0-1")
+        (codes "optional") (codes "devel"))) }
+    ensures no_section { posted (codes "/v1/enter")
+        (codes "{\"arch\":\"amd64\",\"source\":\"hello\",\"version\":\"1.0-1\","
+        ++ codes "\"priority\":\"optional\"}") ≡ Err BadBody }
     // a take number, and a reason, which may be empty
     ensures attempted { posted (codes "/v1/attempted") (codes "{\"take\":7,\"reason\":\"no -lm\"}")
         ≡ Ok (Command (Attempted 7 (codes "no -lm"))) }

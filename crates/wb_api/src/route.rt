@@ -16,6 +16,9 @@ use wb_streams::Fault;
 /// The commands that a builder or an operator may give over HTTP, each with its own path.
 #[derive(Clone, Copy, Debug, PartialEq, Eq)]
 pub(crate) enum CommandKind {
+    AddArch,
+    AddBuilder,
+    Enter,
     Next,
     Take,
     Built,
@@ -51,7 +54,10 @@ pub(crate) enum Route {
 }
 
 /// The paths, as `matchit` reads them, and what each is for.
-static TABLE: [(&str, Route); 20] = [
+static TABLE: [(&str, Route); 23] = [
+    ("/v1/add-arch", Route::Command(CommandKind::AddArch)),
+    ("/v1/add-builder", Route::Command(CommandKind::AddBuilder)),
+    ("/v1/enter", Route::Command(CommandKind::Enter)),
     ("/v1/next", Route::Command(CommandKind::Next)),
     ("/v1/take", Route::Command(CommandKind::Take)),
     ("/v1/built", Route::Command(CommandKind::Built)),

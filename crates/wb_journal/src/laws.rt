@@ -4,8 +4,9 @@ ghost use Rattle.wb_api.specs.Commands.{command_in};
 ghost use Rattle.wb_api.specs.Keys.{names_in, names_of_entry};
 ghost use Rattle.wb_api.specs.declared.route.CommandKind.TheVariants as kind;
 ghost use Rattle.wb_journal.specs.Commands.{value_of_command};
-ghost use Rattle.wb_states.specs.Forms.{Attempted, BuildPriority, Built, DepWait, Fail, GiveBack, Next, NotForUs, PutBack, Rebuild};
-ghost use Rattle.wb_states.specs.Forms.{Take, Uploaded, Waits};
+ghost use Rattle.wb_states.specs.Forms.{AddArch, AddBuilder, Attempted, BuildPriority, Built};
+ghost use Rattle.wb_states.specs.Forms.{DepWait, Enter, Fail, GiveBack, Next, NotForUs, PutBack};
+ghost use Rattle.wb_states.specs.Forms.{Rebuild, Take, Uploaded, Waits};
 
 /// What a journal has of a command is the body of the request that gives it, for each command that a request gives but a
 /// report, of which it has the length alone: so what was accepted can be given again.
@@ -26,6 +27,15 @@ pub fn entries_are_bodies_of_requests()
     ensures attempted { (take_number : ℕ) (reason : List ℕ)
         → command_in kind.Attempted (value_of_command (Attempted take_number reason)) ≡ Some (Attempted take_number reason) }
     // of operators
+    ensures add_arch { (name os cpu : List ℕ)
+        → command_in kind.AddArch (value_of_command (AddArch name os cpu))
+        ≡ Some (AddArch name os cpu) }
+    ensures add_builder { (name arch : List ℕ)
+        → command_in kind.AddBuilder (value_of_command (AddBuilder name arch))
+        ≡ Some (AddBuilder name arch) }
+    ensures enter { (arch source version priority section : List ℕ)
+        → command_in kind.Enter (value_of_command (Enter arch source version priority section))
+        ≡ Some (Enter arch source version priority section) }
     ensures give_back { (arch source version : List ℕ)
         → command_in kind.GiveBack (value_of_command (GiveBack arch source version)) ≡ Some (GiveBack arch source version) }
     ensures dep_wait { (arch source version relations : List ℕ)
@@ -65,6 +75,13 @@ pub fn entries_have_the_keys_of_requests()
     ensures attempted { (take_number : ℕ) (reason : List ℕ)
         → names_in (value_of_command (Attempted take_number reason)) ≡ names_of_entry kind.Attempted }
     // of operators
+    ensures add_arch { (name os cpu : List ℕ)
+        → names_in (value_of_command (AddArch name os cpu)) ≡ names_of_entry kind.AddArch }
+    ensures add_builder { (name arch : List ℕ)
+        → names_in (value_of_command (AddBuilder name arch)) ≡ names_of_entry kind.AddBuilder }
+    ensures enter { (arch source version priority section : List ℕ)
+        → names_in (value_of_command (Enter arch source version priority section))
+        ≡ names_of_entry kind.Enter }
     ensures give_back { (arch source version : List ℕ)
         → names_in (value_of_command (GiveBack arch source version)) ≡ names_of_entry kind.GiveBack }
     ensures dep_wait { (arch source version relations : List ℕ)

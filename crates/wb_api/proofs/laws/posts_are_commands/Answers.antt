@@ -7,6 +7,12 @@ use Rattle.wb_api.proofs.laws.posts_are_commands.Goals as goal
 pub returns : goal.returns
 unfolding httparse_on_literals serde_json_on_literals http_on_literals
 returns c = record {
+  add_arch = refl;
+  no_cpu = refl;
+  add_builder = refl;
+  no_name = refl;
+  enter = refl;
+  no_section = refl;
   attempted = refl;
   no_words = refl;
   no_reason = refl;

@@ -2,7 +2,8 @@ use Rattle.std.proofs.Common.{◌≡◌, ◌<◌, ◌^◌, ℕ, List, refl, Opti
 use Rattle.std.specs.Prelude.{nat_lt, pos}
 use Rattle.std.proofs.lemmas.Bool.Decides.{nat_tests}
 use Rattle.serde_json.proofs.OnLiterals.{serde_json_on_literals}
-use Rattle.wb_api.specs.Commands.{attempted_in, build_priority_in, dep_wait_in, fail_in, give_back_in, next_in}
+use Rattle.wb_api.specs.Commands.{add_arch_in, add_builder_in, attempted_in, build_priority_in, dep_wait_in, enter_in}
+use Rattle.wb_api.specs.Commands.{fail_in, give_back_in, next_in}
 use Rattle.wb_api.specs.Commands.{not_for_us_in, rebuild_in, named_source_in, take_in, waits_in}
 use Rattle.wb_api.specs.Commands.{command_in}
 use Rattle.wb_api.specs.declared.route.CommandKind.TheVariants as kind
@@ -23,7 +24,8 @@ priority arch source version value small =
     rw fits refl
 
 pub returns : goal.returns
-unfolding attempted_in build_priority_in dep_wait_in fail_in give_back_in next_in not_for_us_in rebuild_in named_source_in take_in waits_in serde_json_on_literals
+unfolding add_arch_in add_builder_in attempted_in build_priority_in dep_wait_in enter_in fail_in give_back_in next_in
+    not_for_us_in rebuild_in named_source_in take_in waits_in serde_json_on_literals
 returns c = record {
   next = next;
   take = λ arch builder source version. refl;
@@ -32,6 +34,9 @@ returns c = record {
   waits = λ take_number relations. refl;
   put_back = λ take_number. refl;
   attempted = λ take_number reason. refl;
+  add_arch = λ name os cpu. refl;
+  add_builder = λ name arch. refl;
+  enter = λ arch source version priority section. refl;
   give_back = λ arch source version. refl;
   dep_wait = λ arch source version relations. refl;
   fail = λ arch source version note. refl;
