@@ -11,10 +11,10 @@ import re
 from pathlib import Path
 
 from office_model import (
-    CODES, FORMS, PRIORITIES, SECTIONS, Kept, Listed, Office, Refused, check, lines_of, order, parts_of,
+    CODES, FORMS, LABEL, PRIORITIES, SECTIONS, Listed, Office, Refused, check, lines_of, order, parts_of,
 )
 
-ALL_CODES = CODES | {"AlreadyThere": 10, "BadListing": 15, "RepeatedArch": 22}
+ALL_CODES = CODES | {"BadListing": 15, "RepeatedArch": 22}
 # The states by their numbers in the tables.
 CODE_OF_STATE = (
     "Needs-Build Building Built Uploaded Installed Dep-Wait BD-Uninstallable Failed Not-For-Us Build-Attempted".split()
@@ -23,6 +23,9 @@ FORMAT = 2  # of the tables
 
 # The arguments of each subcommand that HTTP has too; two dots mark a last one of several words.
 ARGUMENTS = {
+    "add-arch": "name os cpu",
+    "add-builder": "name arch",
+    "enter": "arch source version priority section",
     "next": "arch builder",
     "take": "arch builder source version",
     "built": "take",
@@ -41,7 +44,6 @@ NUMBERS = {"take", "number", "value", "after"}
 QUERIES = {
     "queue": "queue", "summary": "summary", "by-state": "state", "item": "item", "depends": "depends", "mine": "mine",
 }
-LINE_FORMS = {"word": re.compile(r"(?!any\Z)[a-z0-9]{1,20}\Z"), "field": re.compile(r"[!-~]{1,64}\Z")}
 
 
 # ---- relations
@@ -160,7 +162,7 @@ def is_good(field, value):
     if field == "Architecture":
         return value != ""
     if field in ("Priority", "Section"):
-        return value == "" or LINE_FORMS["field"].match(value)
+        return value == "" or LABEL.match(value)
     if field == "Version":
         return is_version(value)
     name, bracket, version = value.partition(" (") if field == "Source" else (value, "", "")
@@ -224,7 +226,7 @@ class LineOffice(Office):
 
     def __init__(self, files):
         super().__init__([])
-        self.files, self.archs, self.builders, self.accepted, self.asked_of = files, {}, {}, 0, None
+        self.files, self.archs, self.builders, self.accepted = files, {}, {}, 0
 
     def twin(self):
         """An office that is as this one."""
@@ -273,46 +275,14 @@ class LineOffice(Office):
         self.said = None
         return self.carry_out(name, body)
 
-    def carry_out(self, name, body):
-        record = (
-            next((record for record in self.records.values() if record.take == body["take"]), None)
-            if "take" in body
-            else None
-        )
-        arch = body.get("arch", record and record.arch)
-        self.asked_of = self.archs.get(arch)
-        return super().carry_out(name, body)
-
-    def relations_of(self, text):
-        """What is printed of the relations for the architecture of the command; nothing if there is none."""
-        return printed(reduced(text, self.asked_of or ("", "", "")))
+    def relations_of(self, text, arch):
+        """What is printed of the relations for this architecture; nothing if there is none."""
+        return printed(reduced(text, self.archs.get(arch, ("", "", ""))))
 
     def check_waits(self, text, waits):
         check(waits, "BadRelations", fault="Nothing")
 
-    # -- the commands that lines alone have
-
-    def line_add_arch(self, name, os, cpu):
-        check(FORMS["arch"].match(name) and LINE_FORMS["word"].match(os) and LINE_FORMS["word"].match(cpu), "BadName")
-        check(name not in self.archs, "AlreadyThere")
-        self.archs[name] = (name, os, cpu)
-        return self.accept("add-arch")
-
-    def line_add_builder(self, name, arch):
-        check(FORMS["builder"].match(name) and FORMS["arch"].match(arch), "BadName")
-        check(arch in self.archs, "UnknownArch")
-        check(arch not in self.builders.get(name, ()), "AlreadyThere")
-        self.builders.setdefault(name, set()).add(arch)
-        return self.accept("add-builder")
-
-    def line_enter(self, arch, source, version, priority, section):
-        fields = LINE_FORMS["field"].match(priority) and LINE_FORMS["field"].match(section)
-        check(FORMS["arch"].match(arch) and FORMS["source"].match(source) and fields, "BadName")
-        parts_of(version)
-        check(arch in self.archs, "UnknownArch")
-        check((arch, source) not in self.records, "AlreadyThere")
-        self.records[arch, source] = Kept(arch, source, version, priority, section, "Needs-Build")
-        return self.accept("enter")
+    # -- the commands that are given otherwise over HTTP, or not at all
 
     def line_report(self, arch, name):
         check(FORMS["arch"].match(arch), "BadName")

@@ -1,7 +1,7 @@
-"""A second reading of docs/PROTOCOL.md, for tools/tests/test_requests.py: an office of two architectures, with the
-commands and the queries that HTTP has, and merges of lists that were read. It answers each with a status and an object.
-It is written from the page and shares nothing with the program. tools/tests/line_model.py makes of it an office that
-answers lines.
+"""A second reading of docs/PROTOCOL.md, for tools/tests/test_requests.py: an office that begins with two architectures,
+with the commands and the queries that HTTP has, and merges of lists that were read. It answers each with a status and
+an object. It is written from the page and shares nothing with the program. tools/tests/line_model.py makes of it an
+office that answers lines.
 
 What it does not read is relations in general. For a text that RELATIONS does not have it takes what the program
 answered of that text alone, as long as the page has such an answer, and keeps what waits are printed open until an
@@ -23,12 +23,13 @@ STATES = (
     "BD-Uninstallable Build-Attempted Building Built Dep-Wait Failed Installed Needs-Build Not-For-Us Uploaded".split()
 )
 
-# Relations that are read, with how they are printed for both architectures; None if nothing of them is left.
-RELATIONS = {
-    text: text
-    for text in ("libz", "debhelper (>= 13)", "liba (>= 2), libb", "gcc-13 | clang", "libc6 (<< 2:3.1~rc1-2)")
+# Relations that are read. Of those that name architectures: how they are printed for these, and how for all others;
+# None if nothing of them is left.
+BY_ARCH = {
+    "libz [armhf]": ({"armhf": "libz"}, None),
+    "liba [!amd64 !arm64] | libb [s390x]": ({"amd64": None, "arm64": None, "s390x": "liba | libb"}, "liba"),
 }
-RELATIONS |= {"libz [armhf]": None, "liba [!amd64 !arm64] | libb [s390x]": None}
+RELATIONS = ["libz", "debhelper (>= 13)", "liba (>= 2), libb", "gcc-13 | clang", "libc6 (<< 2:3.1~rc1-2)", *BY_ARCH]
 RELATION_FAULTS = {"BadName", "BadOperator", "BadVersion", "Mixed", "Unclosed", "EmptyAlternative", "Stray"}
 
 CODES = {
@@ -36,11 +37,13 @@ CODES = {
     "QueueEmpty": 7,
 }
 CODES |= {
-    "NotHeld": 8, "AfterAhead": 9, "BadName": 11, "BadVersion": 12, "BadRelations": 13, "BadNumber": 14,
-    "BadReport": 16, "TextTooLong": 17,
+    "NotHeld": 8, "AfterAhead": 9, "AlreadyThere": 10, "BadName": 11, "BadVersion": 12, "BadRelations": 13,
+    "BadNumber": 14, "BadReport": 16, "TextTooLong": 17,
 }
 STATUSES = dict.fromkeys(("UnknownArch", "UnknownBuilder", "UnknownSource"), 404)
-STATUSES |= dict.fromkeys(("WrongArch", "OtherVersion", "WrongState", "QueueEmpty", "NotHeld", "AfterAhead"), 409)
+STATUSES |= dict.fromkeys(
+    ("WrongArch", "OtherVersion", "WrongState", "QueueEmpty", "NotHeld", "AfterAhead", "AlreadyThere"), 409
+)
 STATUSES |= dict.fromkeys(("BadName", "BadVersion", "BadRelations", "BadNumber", "BadReport", "TextTooLong"), 422)
 
 # The states from which each command moves a record, and the state into which it moves.
@@ -76,11 +79,13 @@ def check(holds, name, **more):
 
 # ---- names and versions
 
+WORD, LABEL = re.compile(r"(?!any\Z)[a-z0-9]{1,20}\Z"), re.compile(r"[!-~]{1,64}\Z")
 FORMS = {
     "arch": re.compile(r"(?!(?:all|any|source)\Z)[a-z0-9][a-z0-9-]{0,39}\Z"),
     "builder": re.compile(r"[A-Za-z0-9][A-Za-z0-9._-]{0,63}\Z"),
-    "source": re.compile(r"[a-z0-9][a-z0-9+.-]{1,199}\Z"),
+    "source": re.compile(r"[a-z0-9][a-z0-9+.-]{1,199}\Z"), "os": WORD, "cpu": WORD, "priority": LABEL, "section": LABEL,
 }
+ADDED = {"add-arch": "arch", "add-builder": "builder", "enter": "source"}  # what each of these commands adds
 
 
 def parts_of(version):
@@ -280,7 +285,8 @@ class Office:
     merge."""
 
     def __init__(self, records):
-        self.archs, self.builders = ARCHS, BUILDERS
+        self.archs = {arch: (arch, "linux", arch) for arch in ARCHS}
+        self.builders = {name: set(archs) for name, archs in BUILDERS.items()}
         self.accepted, self.handed = 7, 0
         self.records = {(record.arch, record.source): record for record in records}
         self.said = None
@@ -305,11 +311,12 @@ class Office:
         check(body["builder"] in self.builders, "UnknownBuilder")
         check(body["arch"] in self.builders[body["builder"]], "WrongArch")
 
-    def relations_of(self, text):
-        """What is printed of the relations; None if it is not known."""
+    def relations_of(self, text, arch):
+        """What is printed of the relations for this architecture; None if it is not known."""
         check(len(text.encode()) <= 65536, "BadRelations", fault="TooLong")
         if text in RELATIONS:
-            return RELATIONS[text]
+            named, others = BY_ARCH.get(text, ({}, text))
+            return named.get(arch, others)
         met = self.said if isinstance(self.said, dict) else {}
         fault = met.get("fault") if met.get("refused") == "BadRelations" else None
         check(fault not in RELATION_FAULTS, "BadRelations", fault=fault)
@@ -327,16 +334,18 @@ class Office:
             return STATUSES[why.name], {"code": CODES[why.name], "refused": why.name, **why.more}
 
     def carry_out(self, name, body):
-        for key in FORMS:
-            check(key not in body or FORMS[key].match(body[key]), "BadName")
+        forms = {**FORMS, "name": FORMS[ADDED.get(name, "arch")]}
+        check(all(forms[key].match(text) for key, text in body.items() if key in forms), "BadName")
         version = parts_of(body["version"]) if "version" in body else None
-        relations = self.relations_of(body["relations"]) if "relations" in body else None
+        relations = self.relations_of(body["relations"], self.arch_of(body)) if "relations" in body else None
         check("number" not in body or 1 <= body["number"] <= 999, "BadNumber")
         check("value" not in body or -1000 <= body["value"] <= 1000, "BadNumber")
         text = next((body[key] for key in ("note", "reason", "message") if key in body), "")
         check(len(text.encode()) <= 1000, "TextTooLong")
         report = lines_of(body["text"]) if "text" in body else {}
         check("arch" not in body or body["arch"] in self.archs, "UnknownArch")
+        if name in ADDED:
+            return self.add(name, body)
         if name == "report":
             return self.take_report(body["arch"], report)
         if "builder" in body:
@@ -357,6 +366,24 @@ class Office:
             self.check_waits(body["relations"], relations)
         self.move(record, name, text)
         record.waits = relations if "relations" in body else ""
+        return self.accept(name)
+
+    def arch_of(self, body):
+        """The architecture that a command names, by a take number if need be; None if nothing is held under it."""
+        held = (record.arch for record in self.records.values() if record.take == body.get("take", ()))
+        return body["arch"] if "arch" in body else next(held, None)
+
+    def add(self, name, body):
+        """Adds an architecture, a builder for an architecture, or a source package, unless it is there."""
+        if name == "add-arch":
+            check(body["name"] not in self.archs, "AlreadyThere")
+            self.archs[body["name"]] = (body["name"], body["os"], body["cpu"])
+        elif name == "add-builder":
+            check(body["arch"] not in self.builders.get(body["name"], ()), "AlreadyThere")
+            self.builders.setdefault(body["name"], set()).add(body["arch"])
+        else:
+            check((body["arch"], body["source"]) not in self.records, "AlreadyThere")
+            self.records[body["arch"], body["source"]] = Kept(**body, state="Needs-Build")
         return self.accept(name)
 
     def check_waits(self, text, printed):

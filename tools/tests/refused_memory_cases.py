@@ -595,7 +595,7 @@ IN_MEMORY = ["next", "enter", "report", "item"]
 # ---- requests
 
 
-def post(name, **keys):
+def post(name, /, **keys):
     """The request for a command."""
     body = as_json(**keys)
     return f"POST /v1/{name} HTTP/1.1\r\nHost: localhost\r\nContent-Length: {len(body)}\r\n\r\n{body}"
@@ -620,6 +620,20 @@ NEXT_TAR, NEXT_HELLO = job(8, 1, "amd64", "tar", "1.30"), job(9, 2, "amd64", "he
 REQUESTS = {
     "post-next": Request(
         post("next", arch="amd64", builder="b1"), OFFICE, (200, NEXT_TAR), (200, NEXT_HELLO), (BEGUN, HANDED)
+    ),
+    "post-add-arch": Request(
+        post("add-arch", name="riscv64", os="linux", cpu="riscv64"),
+        OFFICE,
+        (200, accepted(8, "add-arch")),
+        (409, ALREADY_THERE),
+        COMMANDS["add-arch"].rows,
+    ),
+    "post-enter": Request(
+        post("enter", arch="amd64", source="zlib", version="1:1.2", priority="optional", section="libs"),
+        OFFICE,
+        (200, accepted(8, "enter")),
+        (409, ALREADY_THERE),
+        COMMANDS["enter"].rows,
     ),
     # An assignment that is repeated accepts nothing, so an answer says that there is no memory for the reply, too.
     "post-again": refusing(post("next", arch="amd64", builder="b1", after=0), 200, AGAIN),

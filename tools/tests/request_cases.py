@@ -83,6 +83,8 @@ LIBSIGC = INSTALLED | {
 }
 ZLIB = INSTALLED | {"source": "zlib", "version": "1:1.2", "build": "1:1.2", "priority": "required", "section": "libs"}
 WAITING = {"arch": "arm64", "earlier": False, "state": "Needs-Build"}
+ENTERED = INSTALLED | WAITING | {"arch": "armhf", "source": "bash", "version": "5.2-1", "build": "5.2-1"}
+ENTERED |= {"priority": "required", "section": "shells"}
 
 
 def listed(state, *records):
@@ -113,6 +115,7 @@ BAD_NAME = '422 {"code":11,"refused":"BadName"}'
 BAD_NUMBER = '422 {"code":14,"refused":"BadNumber"}'
 UNKNOWN_SOURCE = '404 {"code":4,"refused":"UnknownSource"}'
 UNKNOWN_ARCH = '404 {"code":1,"refused":"UnknownArch"}'
+ALREADY_THERE = '409 {"code":10,"refused":"AlreadyThere"}'
 NOT_HELD = '409 {"code":8,"refused":"NotHeld"}'
 QUEUE_EMPTY = '409 {"code":7,"refused":"QueueEmpty"}'
 MINE = '200 {"builder":"b1","records":[]}'
@@ -157,9 +160,16 @@ HEADS = [
     (b"OPTIONS * HTTP/1.1\r\n\r\n", "404 NoRoute"),
     (b"POST /v1/build_priority HTTP/1.1\r\n\r\n", "404 NoRoute"),
     (b"POST /v1/report/amd64 HTTP/1.1\r\n\r\n", "404 NoRoute"),
+    (b"POST /v1/add-arch/ HTTP/1.1\r\n\r\n", "404 NoRoute"),
+    (b"POST /v1/add-architecture HTTP/1.1\r\n\r\n", "404 NoRoute"),
+    (b"POST /v1/add-b HTTP/1.1\r\n\r\n", "404 NoRoute"),
+    (b"POST /v1/merge HTTP/1.1\r\n\r\n", "404 NoRoute"),
     (b"GET /v1/by-state/amd64/Failed HTTP/1.1\r\n\r\n", "404 NoRoute"),
     (b"GET /v1/next HTTP/1.1\r\n\r\n", "405 WrongMethod"),
     (b"GET /v1/attempted HTTP/1.1\r\n\r\n", "405 WrongMethod"),
+    (b"GET /v1/add-arch HTTP/1.1\r\n\r\n", "405 WrongMethod"),
+    (b"PUT /v1/add-builder HTTP/1.1\r\n\r\n", "405 WrongMethod"),
+    (b"GET /v1/enter HTTP/1.1\r\n\r\n", "405 WrongMethod"),
     (b"PUT /v1/build-priority HTTP/1.1\r\n\r\n", "405 WrongMethod"),
     (b"HEAD /v1/mine/b1 HTTP/1.1\r\n\r\n", "405 WrongMethod"),
     (b"GET /v1/report HTTP/1.1\r\n\r\n", "405 WrongMethod"),
@@ -334,6 +344,46 @@ BODIES = [
         ("report", '{"arch":"amd64","text":null}', "400 BadBody"),
         ("report", '{"arch":"amd64","text":["hello 1.0-1 installable"]}', "400 BadBody"),
         ("report", r'{"arch":"amd64","text":"\ud800"}', "400 BadBody"),
+        ("add-arch", '{"os":"linux","cpu":"arm"}', "400 BadBody"),
+        ("add-arch", '{"name":"armhf","cpu":"arm"}', "400 BadBody"),
+        ("add-arch", '{"name":"armhf","os":"linux"}', "400 BadBody"),
+        ("add-arch", '{"arch":"armhf","os":"linux","cpu":"arm"}', "400 BadBody"),
+        ("add-arch", '{"name":"armhf","os":"linux","cpu":null}', "400 BadBody"),
+        ("add-arch", '{"name":"armhf","os":["linux"],"cpu":"arm"}', "400 BadBody"),
+        ("add-arch", '{"name":"all","os":"linux","cpu":"arm"}', BAD_NAME),
+        ("add-arch", '{"name":"armhf","os":"","cpu":"arm"}', BAD_NAME),
+        ("add-arch", '{"name":"armhf","os":"linux","cpu":"any"}', BAD_NAME),
+        ("add-arch", '{"name":"amd64","os":"linux","cpu":"arm"}', ALREADY_THERE),
+        ("add-builder", '{"arch":"amd64"}', "400 BadBody"),
+        ("add-builder", '{"name":"b4"}', "400 BadBody"),
+        ("add-builder", '{"builder":"b4","arch":"amd64"}', "400 BadBody"),
+        ("add-builder", '{"name":4,"arch":"amd64"}', "400 BadBody"),
+        ("add-builder", '{"name":"-","arch":"armhf"}', BAD_NAME),
+        ("add-builder", '{"name":"b4","arch":"any"}', BAD_NAME),
+        ("add-builder", '{"name":"b4","arch":"armhf"}', UNKNOWN_ARCH),
+        ("add-builder", '{"name":"b1","arch":"amd64"}', ALREADY_THERE),
+    )
+]
+BODIES += [
+    (posted("enter", f'{{"arch":{arch},"source":{source},"version":"1"{more}}}'), outcome)
+    for arch, source, more, outcome in (
+        ('"amd64"', '"bash"', ',"priority":"extra"', "400 BadBody"),
+        ('"amd64"', '"bash"', ',"section":"devel"', "400 BadBody"),
+        ('"amd64"', '"bash"', ',"priority":1,"section":"devel"', "400 BadBody"),
+        ('"amd64"', '"bash"', ',"priority":"extra","section":null', "400 BadBody"),
+        ("null", '"bash"', ',"priority":"extra","section":"devel"', "400 BadBody"),
+        ('"amd64"', "[]", ',"priority":"extra","section":"devel"', "400 BadBody"),
+        ('"amd64"', '"bash"', ',"priority":"extra","section":"devel","version":1', "400 BadBody"),
+        ('"amd64"', '"bash"', ',"priority":"","section":"devel"', BAD_NAME),
+        ('"amd64"', '"bash"', ',"priority":"extra","section":"a b"', BAD_NAME),
+        ('"amd64"', '"b"', ',"priority":"extra","section":"devel"', BAD_NAME),
+        ('"any"', '"bash"', ',"priority":"extra","section":"devel"', BAD_NAME),
+        (
+            '"amd64"', '"bash"', ',"priority":"extra","section":"devel","version":":"',
+            '422 {"code":12,"fault":"EpochEmpty","refused":"BadVersion"}',
+        ),
+        ('"armhf"', '"bash"', ',"priority":"extra","section":"devel"', UNKNOWN_ARCH),
+        ('"amd64"', '"hello"', ',"priority":"extra","section":"devel"', ALREADY_THERE),
     )
 ]
 
@@ -389,6 +439,25 @@ COMMANDS = [
         got("item/amd64/hello"),
         ok(**HELLO | {"state": "Needs-Build", "build": "1.0-1+b1", "number": 1, "message": "m", "build_priority": -5}),
     ),
+    (posted("add-arch", '{"cpu":"arm","name":"armhf","os":"linux"}'), ok(accepted=23, ok="add-arch")),
+    (got("summary/armhf"), counted(23, "armhf")),
+    (posted("add-builder", '{"name":"b4","arch":"armhf"}'), ok(accepted=24, ok="add-builder")),
+    (got("mine/b4"), '200 {"builder":"b4","records":[]}'),
+    (posted("next", '{"arch":"armhf","builder":"b4"}'), QUEUE_EMPTY),
+    (
+        posted("enter", '{"arch":"armhf","source":"bash","version":"5.2-1","priority":"required","section":"shells"}'),
+        ok(accepted=25, ok="enter"),
+    ),
+    (got("item/armhf/bash"), ok(**ENTERED)),
+    (got("depends/armhf/bash"), needs("armhf", "bash", "")),
+    (
+        posted(
+            "dep-wait",
+            '{"arch":"armhf","source":"bash","version":"5.2-1","relations":"libz [any-arm], liba [arm-any]"}',
+        ),
+        ok(accepted=26, ok="dep-wait"),
+    ),
+    (got("item/armhf/bash"), ok(**ENTERED | {"state": "Dep-Wait", "waits": "libz"})),
 ]
 
 # ---- queries

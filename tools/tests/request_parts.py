@@ -26,6 +26,13 @@ ODD_LINES += [
     "Src1 1.0 installable",
 ]
 
+# Names of architectures that are added, words of their systems and processors, and priorities and sections of what is
+# entered, of which some are malformed.
+ARCH_NAMES = ["riscv64", "s390x", "ppc64el", "loong64", "x32", "armhf", "amd64", "any", "Hurd", "a" * 40, "a" * 41, ""]
+ARCH_WORDS = ["linux", "hurd", "arm", "s390x", "a" * 20, "any", "x86_64", "a" * 21, ""]
+LABELS = ["required", "extra", "devel", "contrib/net", "a/b/net", '"', "\\", "~" * 64, "~" * 65, "", "a b", "\x7f"]
+LABELS += ["\u00e4"]
+
 # What is put into requests: versions, parts of targets, whole targets, fields, bytes, and values as JSON or nearly so.
 VERSIONS = [
     b"HTTP/1.0", b"HTTP/1.1", b"HTTP/1.2", b"HTTP/2.0", b"HTTP/0.9", b"http/1.1", b"HTTP/1.10", b"HTTP/11", b"HTTP/1,1",

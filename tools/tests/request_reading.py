@@ -66,7 +66,9 @@ def read_answer(answered):
 HEAD_LIMIT, FIELD_LIMIT, BODY_LIMIT, DEPTH_LIMIT = 8192, 32, 16777216, 127
 SUBJECT = {"arch": str, "source": str, "version": str}
 FORMS = {
-    "next": {"arch": str, "builder": str, "after": int}, "take": {**SUBJECT, "builder": str}, "built": {"take": int},
+    "add-arch": {"name": str, "os": str, "cpu": str}, "add-builder": {"name": str, "arch": str},
+    "enter": {**SUBJECT, "priority": str, "section": str}, "next": {"arch": str, "builder": str, "after": int},
+    "take": {**SUBJECT, "builder": str}, "built": {"take": int},
     "uploaded": {"take": int}, "waits": {"take": int, "relations": str}, "attempted": {"take": int, "reason": str},
     "put-back": {"take": int}, "give-back": SUBJECT, "dep-wait": {**SUBJECT, "relations": str},
     "fail": {**SUBJECT, "note": str}, "not-for-us": {**SUBJECT, "note": str},

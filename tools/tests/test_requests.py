@@ -25,8 +25,9 @@ import urllib.parse
 import request_cases as by_hand
 from harness import SEED, Failure, expect, main, trial_program
 from request_reading import BODY_LIMIT, FAULTS, FORMS, HEAD_LIMIT, PHRASES, QUERIES, judge
-from office_model import ARCHS, BUILDERS, HELD, MOVES, PRIORITIES, RELATIONS, STATES, STATUSES, Office, Record
-from request_parts import BYTES, FIELDS, NEEDED, ODD_LINES, OTHERS, REASONS, TARGET_PARTS, TARGETS, VERSIONS
+from office_model import ADDED, ARCHS, HELD, MOVES, PRIORITIES, RELATIONS, STATES, STATUSES, Office, Record
+from request_parts import ARCH_NAMES, ARCH_WORDS, BYTES, FIELDS, LABELS, NEEDED, ODD_LINES, OTHERS, REASONS
+from request_parts import TARGET_PARTS, TARGETS, VERSIONS
 
 REQUESTS, BATCH = int(os.environ.get("REQUESTS", "100000")), 50
 
@@ -118,12 +119,12 @@ class Maker:
             if pick.random() < 0.9
             else pick.choice(["0:" + record.version, record.version + "~", "1-", "a:1", "2:3_", ""])
         )
-        builders = (
-            [builder for builder, archs in BUILDERS.items() if record.arch in archs]
-            if pick.random() < 0.95
-            else [*BUILDERS, "b9", "-"]
-        )
-        values = {"arch": record.arch, "source": record.source, "version": version, "builder": pick.choice(builders)}
+        arch = pick.choice([*self.office.archs]) if name == "next" and pick.random() < 0.1 else record.arch
+        known = [builder for builder, archs in self.office.builders.items() if arch in archs]
+        builders = known if known and pick.random() < 0.95 else [*self.office.builders, "b9", "-"]
+        values = {"arch": arch, "source": record.source, "version": version, "builder": pick.choice(builders)}
+        if name in ADDED:
+            values |= self.added(name, record)
         if pick.random() < 0.06:
             values[pick.choice(["arch", "source"])] = pick.choice(["armhf", "nosuch", "all", "x" * 40, "_", ""])
         values |= {
@@ -148,11 +149,23 @@ class Maker:
         values |= {"text": self.report(record.arch) if name == "report" else ""}
         return {key: values[key] for key in FORMS[name] if key != "after" or pick.random() < 0.4}
 
+    def added(self, name, record):
+        """What an architecture, a builder for an architecture or a source package is added with."""
+        pick = self.choice
+        return {
+            "arch": pick.choice([record.arch, *self.office.archs]), "source": f"new{pick.randrange(12)}",
+            "name": pick.choice(ARCH_NAMES if name == "add-arch" else [*self.office.builders, "b4", "b5", "-"]),
+            "os": pick.choice(ARCH_WORDS[:5] if pick.random() < 0.8 else ARCH_WORDS),
+            "cpu": pick.choice(ARCH_WORDS[:5] if pick.random() < 0.8 else ARCH_WORDS),
+            "priority": pick.choice(LABELS[:8] if pick.random() < 0.8 else LABELS),
+            "section": pick.choice(LABELS[:8] if pick.random() < 0.8 else LABELS),
+        }
+
     def report(self, arch):
         """Some lines of a report, of which most can be read."""
         pick, lines = self.choice, []
         records = [record for record in self.office.records.values() if record.arch == arch]
-        for record in pick.sample(records, pick.choice([0, 1, 2, 5])):
+        for record in pick.sample(records, min(len(records), pick.choice([0, 1, 2, 5]))):
             version = (
                 record.version
                 if pick.random() < 0.9
@@ -171,7 +184,7 @@ class Maker:
         """The path of a query about this record, or what it belongs to."""
         pick = self.choice
         parts = {
-            "item": [record.arch, record.source], "mine": [pick.choice([*BUILDERS, "b9"])],
+            "item": [record.arch, record.source], "mine": [pick.choice([*self.office.builders, "b9"])],
             "state": [record.arch, pick.choice(STATES)],
         }
         parts |= {"queue": [record.arch], "depends": [record.arch, record.source], "summary": [record.arch]}

@@ -96,6 +96,24 @@ COMMANDS = [
     ("report", {"arch": "armhf", "text": "s8 1.8 installable"}, "report armhf good", 404),
     ("report", {"arch": "amd64", "text": "\ns8 1.8\n"}, "report amd64 bad", 422),
     ("report", {"arch": "amd64", "text": ""}, "report amd64 none", 200),
+    ("add-arch", {"name": "armhf", "os": "linux", "cpu": "arm"}, "add-arch armhf linux arm", 200),
+    ("add-arch", {"name": "armhf", "os": "linux", "cpu": "arm"}, "add-arch armhf linux arm", 409),
+    ("add-arch", {"name": "source", "os": "linux", "cpu": "arm"}, "add-arch source linux arm", 422),
+    ("add-builder", {"name": "b4", "arch": "armhf"}, "add-builder b4 armhf", 200),
+    ("add-builder", {"name": "b4", "arch": "s390x"}, "add-builder b4 s390x", 404),
+    (
+        "enter", {"arch": "armhf", "source": "s0", "version": "1.0", "priority": "extra", "section": "libs"},
+        "enter armhf s0 1.0 extra libs", 200,
+    ),
+    (
+        "enter", {"arch": "armhf", "source": "s0", "version": "2.0", "priority": "extra", "section": "libs"},
+        "enter armhf s0 2.0 extra libs", 409,
+    ),
+    (
+        "enter", {"arch": "armhf", "source": "s1", "version": ":", "priority": "extra", "section": "libs"},
+        "enter armhf s1 : extra libs", 422,
+    ),
+    ("next", {"arch": "armhf", "builder": "b4"}, "next armhf b4", 200),
 ]
 
 
