@@ -3,7 +3,8 @@ use Rattle.std.specs.Prelude.{◌==◌, ◌++◌, ◌∷◌, ℕ, List, [], code
 use Rattle.std.specs.List.{starts_with}
 use Rattle.wb.specs.declared.starting.Decision.{Decision}
 use Rattle.wb.specs.declared.starting.Decision.TheVariants.{Begin, BeginBeside, LetOpeningRefuse, Open, ReadTables}
-use Rattle.wb.specs.declared.starting.Decision.TheVariants.{RefuseLost, RefuseNoDatabase, RefuseOthers, Upgrade, UpgradeUnsummed}
+use Rattle.wb.specs.declared.starting.Decision.TheVariants.{RefuseLost, RefuseNoDatabase, RefuseOthers, Upgrade}
+use Rattle.wb.specs.declared.starting.Decision.TheVariants.{UpgradeUnsummed}
 use Rattle.wb.specs.declared.starting.Front.{Front}
 use Rattle.wb.specs.declared.starting.Front.TheVariants.{Database, Nothing, Other, Unclear}
 use Rattle.wb.specs.declared.starting.Log.{Log}

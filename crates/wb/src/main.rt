@@ -3,7 +3,6 @@
 
 mod asked;
 mod compression;
-mod connection;
 mod explained;
 mod files;
 mod first_page;
@@ -23,11 +22,11 @@ mod store;
 use explained::Explained;
 use journal::FileJournal;
 use lists::FileLists;
+use mio::net::TcpListener;
 use sqlite::Alter;
 use std::alloc::Global;
 use std::env;
 use std::io::{self, BufReader};
-use std::net::TcpListener;
 use std::process::ExitCode;
 use std::rt::Env;
 use wb_api::line_fault_json;

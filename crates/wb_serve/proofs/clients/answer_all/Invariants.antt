@@ -1,0 +1,8 @@
+-- What was answered so far are exchanges of an office that was not closed before any of them.
+use Rattle.wb_serve.specs.Exchanges.{ServesAll}
+use Rattle.wb_serve.proofs.clients.answer_all.Given as goal
+
+abbrev pub invariant-loop-place : goal.invariant-loop-place
+invariant-loop-place g l =
+    ServesAll g.O.CarryOut.is_clean g.O.CarryOut.is_closed g.O.CarryOut.stands_at g.O.CarryOut.leaves
+    (g.C.Clients.answered l.initial.clients) (g.C.Clients.answered l.clients) l.initial.office l.office

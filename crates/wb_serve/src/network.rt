@@ -1,0 +1,120 @@
+//! The clients behind the sockets of a port.
+ghost use Rattle.std.specs.Prelude.{◌≡◌, ℕ, List, [], ◌∷◌, ◌++◌, None, Some, slice_get};
+ghost use Rattle.wb_serve.specs.Places.{asked_at, asked_in};
+
+use crate::client::Client;
+use crate::clients::{Clients, Turn};
+use crate::history::History;
+use crate::remarks::Remark;
+use crate::sockets::Sockets;
+use mio::net::TcpListener;
+use std::io;
+use wb_api::{Routes, Served};
+
+/// The clients behind the sockets of a port, and the answers that they were given.
+/// Source: this project's own.
+#[derive(Drop)]
+pub struct Network<'a> {
+    sockets: Sockets<'a>,
+    /// Whether the answers that are being written take so much memory that those who wait for one
+    /// wait on.
+    is_full: bool,
+    history: History,
+    /// How the last exchange ended, and how many bytes its answer has.
+    served: Served,
+    length: usize,
+}
+
+impl<'a> Network<'a> {
+    /// The clients that connect to a port from now on: so many, or without a number all. The errors
+    /// are those of the system, and that there is no memory for their places.
+    /// Source: this project's own.
+    pub fn new(
+        rt: &'a HostRuntime,
+        routes: &'a Routes,
+        listener: &'a TcpListener,
+        count: Option<u32>,
+    ) -> io::Result<Network<'a>> {
+        let limit = match count {
+            Some(count) => u64::from(count),
+            None => u64::MAX,
+        };
+        Ok(Network {
+            sockets: Sockets::new(rt, routes, listener, limit)?,
+            is_full: false,
+            history: History::new(),
+            served: Served::Nothing,
+            length: 0,
+        })
+    }
+}
+
+impl<'a> Clients for Network<'a> {
+    ghost answered = { λ n. n.history };
+
+    ghost asked = { λ n place. asked_at n.is_full (slice_get n.sockets.places.items place) };
+
+    fn turn(&mut self) -> Turn {
+        let turn = self.sockets.turn();
+        self.is_full = self.sockets.is_full();
+        turn
+    }
+
+    fn request(&self, place: usize) -> Option<&[u8]> {
+        if self.is_full {
+            return None;
+        }
+        match self.sockets.places.get(place) {
+            Some(Some(client)) => client.request(),
+            _ => None,
+        }
+    }
+
+    fn answer(&mut self, place: usize, served: Served, answer: Vec<u8>) {
+        self.served = served;
+        self.length = answer.len();
+        let Some(taken) = self.sockets.places.get_mut(place) else {
+            return;
+        };
+        if let Some(history) = give(taken, &self.history, answer) {
+            self.history = history;
+        }
+    }
+
+    fn send(&mut self, place: usize) {
+        match self.served {
+            Served::Mute => self.sockets.remark(Remark::Mute),
+            _ => {}
+        }
+        self.sockets.send(place, code_of(self.served), self.length);
+        self.is_full = self.sockets.is_full();
+    }
+
+    fn finish(&mut self) {
+        self.sockets.finish();
+    }
+}
+
+/// Gives the client at a place its answer, if it waits for one. Gives the answers that were given
+/// so far and then this one, or none if it does not wait.
+fn give(place: &mut Option<Client>, history: &History, answer: Vec<u8>) -> Option<History>
+    ensures given { (request : List ℕ) → asked_in place.old ≡ Some request
+        → result ≡ Some (history.now ++ record { request = request; answer = answer.items } ∷ []) }
+    ensures over { asked_in place.new ≡ None }
+{
+    let Some(client) = place else {
+        return None;
+    };
+    if !client.waits() {
+        return None;
+    }
+    Some(client.answer(history, answer))
+}
+
+/// The code of an answer's status, or 0 if an exchange ended without an answer.
+fn code_of(served: Served) -> u16 {
+    match served {
+        Served::Answered { status } | Served::WriteFailed { status } => status.as_u16(),
+        Served::Nothing | Served::ReadFailed | Served::Mute => 0,
+    }
+}
