@@ -13,6 +13,7 @@ import http.client
 import json
 import os
 import random
+import select
 import shlex
 import shutil
 import socket
@@ -510,30 +511,30 @@ def goes_on_after_clients_that_break_off(folder):
 
 
 def lets_a_silent_client_go(folder):
-    """A client that sends a byte now and then, and at last nothing, is let go 30 seconds after it came, and another is
-    served then; one that sends a byte a second is answered."""
-    with Server(folder, store=None) as server, server.connect() as silent:
+    """While a client sends a byte now and then, and at last nothing, others are answered at once; it is let go 30
+    seconds after it came, without an answer. One that sends its request in six seconds is answered."""
+    request = b"GET /v1/mine/b1 HTTP/1.1\r\n\r\n"
+    with Server(folder, store=None) as server, server.connect() as silent, server.connect() as slow:
         begun = time.monotonic()
-        sender = threading.Thread(target=send_slowly, args=(silent, b"GET ", 5))
-        sender.start()
-        status, said = http_after(server, 60)
+        for link, parts, seconds in (
+            (silent, [b"G", b"E", b"T", b" "], 5), (slow, [request[at : at + 4] for at in range(0, 28, 4)], 1),
+        ):
+            threading.Thread(target=send_slowly, args=(link, parts, seconds), daemon=True).start()
+        while not select.select([silent], [], [], 0.5)[0]:
+            asked = time.monotonic()
+            expect(server.ask("GET", "/v1/mine/b1")[0] == 404, "no answer")
+            expect(time.monotonic() - asked < 2, f"another client waited {time.monotonic() - asked:.1f} s")
+            expect(asked - begun < 36, "a silent client is not let go")
         took = time.monotonic() - begun
-        sender.join()
-        expect(status == 404 and 28 < took < 36, f"status {status} after {took:.1f} s: {said}")
-        expect(received(silent) == b"", "an answer to a silent client")
-        with server.connect() as slow:
-            for byte in b"GET /v1/mine/b1 HTTP/1.1\r\n\r\n"[:6]:
-                slow.sendall(bytes([byte]))
-                time.sleep(1)
-            slow.sendall(b"/mine/b1 HTTP/1.1\r\n\r\n"[:0] + b"1/mine/b1 HTTP/1.1\r\n\r\n")
-            met = received(slow)
+        expect(received(silent) == b"" and took > 28, f"it is let go after {took:.1f} s, or answered")
+        met = received(slow)
         expect(met == answer_bytes(404, '{"code":2,"refused":"UnknownBuilder"}'), f"{met}")
 
 
-def send_slowly(link, data, seconds):
-    """Sends the bytes one by one, with so many seconds after each."""
-    for byte in data:
-        link.sendall(bytes([byte]))
+def send_slowly(link, parts, seconds):
+    """Sends the parts one by one, with so many seconds after each."""
+    for part in parts:
+        link.sendall(part)
         time.sleep(seconds)
 
 
@@ -547,14 +548,6 @@ def says_what_was_not_answered(folder):
         expect(server.ask("GET", "/v1/mine/b1")[0] == 404, "no answer")
         met = server.end()
         expect(met == (0, b"", b"wb: a request was not read to its end, and nothing was done for it\n"), f"{met}")
-
-
-def http_after(server, seconds):
-    link = http.client.HTTPConnection("127.0.0.1", server.port, timeout=seconds)
-    with contextlib.closing(link):
-        link.request("GET", "/v1/mine/b1")
-        answer = link.getresponse()
-        return answer.status, answer.read()
 
 
 def ends_after_its_requests(folder):
