@@ -1,4 +1,4 @@
-"""The program as it serves, requests to it as bytes, and what it answers, for tools/tests/test_serve.py."""
+"""The program as it serves, requests to it as bytes, and what it answers, for tools/tests/test_serve.py and others."""
 import contextlib
 import http.client
 import json
@@ -10,9 +10,10 @@ from harness import WAIT, WB, expect, free_port, listens
 
 
 class Server:
-    """The program, serving over the file `store` of a folder if store is set, for so many requests."""
+    """The program, serving over the file `store` of a folder if store is set, for so many requests. What it says on
+    standard error goes to a file if one is given, and `prepare` is called in its process before it starts."""
 
-    def __init__(self, folder, store="store", requests=1000000, port=None):
+    def __init__(self, folder, store="store", requests=1000000, port=None, errors=subprocess.PIPE, prepare=None):
         self.port = port or free_port()
         words = (
             [WB]
@@ -20,7 +21,9 @@ class Server:
             + ["serve", "--port", str(self.port), "--requests", str(requests)]
         )
         pipe = subprocess.PIPE
-        self.process = subprocess.Popen(words, cwd=folder, stdin=subprocess.DEVNULL, stdout=pipe, stderr=pipe)
+        self.process = subprocess.Popen(
+            words, cwd=folder, stdin=subprocess.DEVNULL, stdout=pipe, stderr=errors, preexec_fn=prepare
+        )
         end = time.monotonic() + WAIT
         while not listens(self.port):
             expect(
