@@ -51,10 +51,19 @@ def is_of_these_sources(_folder, root=ROOT):
     )
 
 
-def is_what_the_gate_built(_folder, root=ROOT):
+def kit_here():
+    done = subprocess.run(["rt", "version"], stdout=subprocess.PIPE, text=True, timeout=60, check=True)
+    return done.stdout.strip()
+
+
+def is_what_the_gate_built(_folder, root=ROOT, kit=None):
+    """Another kit than that which built it may make other bytes of the same sources."""
     manifest = read_manifest(root)
     if manifest.sources != sources_sum(root):
         return "not compared, since it is of other sources"
+    kit = kit or kit_here()
+    if manifest.kit != kit:
+        raise LeftOut(f"{manifest.kit} built the bytes of release/, and the kit here is {kit}")
     why = f"the gate built other bytes than those in release/wb.gz, which {manifest.kit} built"
     expect(gates_program(root) == unpacked(root, manifest), why)
     return None
@@ -328,6 +337,10 @@ esac
 # ---- how release/ is made
 
 
+def is_what_that_gate_built(folder, root):
+    return is_what_the_gate_built(folder, root, KIT)
+
+
 def submission(folder):
     """A copy as it is once the gate has passed: committed, with a program that names the kit, and what the gate kept of
     its run."""
@@ -396,19 +409,19 @@ def is_held_to_the_gate(folder):
     """The tests on this repository find, in a copy, what they are there for."""
     root = submission(folder)
     expect(made(root).returncode == 0, "release/ is not made")
-    for test in (is_whole, is_of_these_sources, is_what_the_gate_built):
+    for test in (is_whole, is_of_these_sources, is_what_that_gate_built):
         expect(test(folder, root) is None, test.__name__)
     out, packed = root / "crates/wb/out", root / "release/wb.gz"
     whole = (out / "wb").read_text()
     (out / "wb").write_text(f"{whole}# other bytes\n")
-    finds(is_what_the_gate_built, folder, root, "the gate has not run crates/wb/out/wb")
+    finds(is_what_that_gate_built, folder, root, "the gate has not run crates/wb/out/wb")
     gate(root, "# other bytes\n")
-    finds(is_what_the_gate_built, folder, root, "the gate built other bytes")
+    finds(is_what_that_gate_built, folder, root, "the gate built other bytes")
     gate(root)
-    expect(is_what_the_gate_built(folder, root) is None, "the same bytes are others")
+    expect(is_what_that_gate_built(folder, root) is None, "the same bytes are others")
     packed.write_bytes(gzip.compress(f"{whole}# other bytes\n".encode(), mtime=0))
     finds(is_whole, folder, root, "is not the program that release/manifest names")
-    finds(is_what_the_gate_built, folder, root, "is not the program that release/manifest names")
+    finds(is_what_that_gate_built, folder, root, "is not the program that release/manifest names")
     changed(root, *CHANGES["a proof"])
     finds(is_of_these_sources, folder, root, "of other sources")
 
