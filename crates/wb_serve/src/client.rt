@@ -120,14 +120,17 @@ impl Client {
         self.answer = 0;
     }
 
-    /// Since when it has sent and taken nothing, if it holds memory for a request that is not
-    /// small, or for an answer.
-    pub(crate) fn idle_since(&self) -> Option<Duration> {
-        if 0 < self.held.unwrap_or(0) || 0 < self.answer {
-            Some(self.moved)
-        } else {
-            None
+    /// Whether it holds memory for the rest of its request, and has sent nothing since then.
+    pub(crate) fn stalls_since(&self, time: Duration) -> bool {
+        match self.connection.stage() {
+            Stage::Body(_) => 0 < self.held.unwrap_or(0) && self.moved <= time,
+            _ => false,
         }
+    }
+
+    /// Whether it has an answer, and has taken nothing of it since then.
+    pub(crate) fn leaves_since(&self, time: Duration) -> bool {
+        0 < self.answer && self.moved <= time
     }
 
     /// Whether it neither sent nor took anything since then, although it was to.

@@ -25,11 +25,12 @@ const BUFFER: usize = 65_536;
 /// How many milliseconds pass after a connection was not accepted until the next is.
 const PAUSE_MILLIS: u64 = 50;
 
-/// How many seconds a head has if all places are taken, and how many a client that holds memory may
-/// say nothing if another one waits for it.
-const PATIENCE_SECONDS: u64 = 1;
+/// How many seconds a head has if all places are taken.
+const HEAD_SECONDS: u64 = 1;
 
-/// How many seconds a client that is past its head may say nothing if all places are taken.
+/// How many seconds a client that is past its head may send and take nothing, if all places are
+/// taken, or memory that it holds is wanted. Some clients wait a second after their head, and a
+/// socket may take nothing for longer than that though its client reads on.
 const IDLE_SECONDS: u64 = 5;
 
 /// How many connections in a row may fail to be accepted until the serving ends: the system then
@@ -61,6 +62,10 @@ pub(crate) struct Sockets<'a> {
     failures: u32,
     /// Whether a client can step without an event.
     busy: bool,
+    /// Whether the last wait was not ended by a signal, so that each socket that is ready was seen.
+    is_sure: bool,
+    /// The place from which on the next free one is sought.
+    from: usize,
 }
 
 impl<'a> Sockets<'a> {
@@ -103,6 +108,8 @@ impl<'a> Sockets<'a> {
             is_refused: false,
             failures: 0,
             busy: false,
+            is_sure: false,
+            from: 0,
         })
     }
 
@@ -124,13 +131,23 @@ impl<'a> Sockets<'a> {
             return Turn::Stopped;
         }
         self.step_all();
+        if self.is_sure {
+            self.let_go();
+        }
+        Turn::Go
+    }
+
+    /// Closes a connection if its place or its memory is wanted, and it has been idle.
+    fn let_go(&mut self) {
         if self.is_crowded() {
             self.make_place();
         }
-        if self.shared.is_short || self.is_full() {
+        if self.shared.is_short {
             self.make_room();
         }
-        Turn::Go
+        if self.is_full() {
+            self.make_room_for_answers();
+        }
     }
 
     /// Accepts no more connections, closes those without an answer, and waits until the others have
@@ -202,12 +219,9 @@ impl<'a> Sockets<'a> {
         self.busy = true;
     }
 
-    /// The place of a client past its head that has said nothing for long, or no place.
+    /// The place of a client past its head that has sent and taken nothing for long, or no place.
     fn idle_place(&self) -> usize {
-        let time = self
-            .shared
-            .now
-            .saturating_sub(Duration::from_secs(IDLE_SECONDS));
+        let time = self.long_ago();
         let idle = self.places.iter().position(|place| match place {
             Some(client) => client.is_idle_since(time),
             None => false,
@@ -220,7 +234,7 @@ impl<'a> Sockets<'a> {
     fn oldest_head(&self) -> usize {
         let mut oldest = PLACES;
         let mut until = self.shared.now.saturating_add(Duration::from_secs(
-            LIMIT_SECONDS.saturating_sub(PATIENCE_SECONDS),
+            LIMIT_SECONDS.saturating_sub(HEAD_SECONDS),
         ));
         for index in 0..PLACES {
             if let Some(Some(client)) = self.places.get(index) {
@@ -233,30 +247,37 @@ impl<'a> Sockets<'a> {
         oldest
     }
 
-    /// Closes the connection that holds memory and has sent and taken nothing for the longest, if
-    /// that is a while.
+    /// Closes a connection that holds memory for its request and has sent nothing for long.
     fn make_room(&mut self) {
-        let mut next = Next::Wait;
-        let mut oldest = PLACES;
-        let mut since = self
-            .shared
-            .now
-            .saturating_sub(Duration::from_secs(PATIENCE_SECONDS));
-        for index in 0..PLACES {
-            if let Some(Some(client)) = self.places.get(index) {
-                if let Some(idle) = client.idle_since() {
-                    if idle < since {
-                        since = idle;
-                        oldest = index;
-                        next = client.overdue();
-                    }
-                }
-            }
-        }
-        if oldest < PLACES {
-            self.settle(oldest, next);
+        let time = self.long_ago();
+        let stalled = self.places.iter().position(|place| match place {
+            Some(client) => client.stalls_since(time),
+            None => false,
+        });
+        if let Some(index) = stalled {
+            self.settle(index, Next::ReadFailed);
             self.busy = true;
         }
+    }
+
+    /// Closes a connection that has taken nothing of its answer for long.
+    fn make_room_for_answers(&mut self) {
+        let time = self.long_ago();
+        let left = self.places.iter().position(|place| match place {
+            Some(client) => client.leaves_since(time),
+            None => false,
+        });
+        if let Some(index) = left {
+            self.settle(index, Next::WriteFailed);
+            self.busy = true;
+        }
+    }
+
+    /// A client that has been idle since then has been so for long.
+    fn long_ago(&self) -> Duration {
+        self.shared
+            .now
+            .saturating_sub(Duration::from_secs(IDLE_SECONDS))
     }
 
     /// How long nothing is to be done unless something comes.
@@ -288,8 +309,10 @@ impl<'a> Sockets<'a> {
     /// Waits until something comes or a time is over, and notes what may be ready.
     fn wait(&mut self) -> io::Result<()> {
         let pause = self.pause();
+        let begun = self.start.elapsed(self.rt)?;
         self.poll.poll(&mut self.events, Some(pause))?;
         self.shared.now = self.start.elapsed(self.rt)?;
+        self.is_sure = !self.events.is_empty() || pause <= self.shared.now.saturating_sub(begun);
         if let Some(due) = self.remarks.due() {
             if due <= self.shared.now {
                 self.remarks.count_left_out();
@@ -347,9 +370,7 @@ impl<'a> Sockets<'a> {
     /// Accepts one connection, for which there is a place.
     fn accept_one(&mut self) -> io::Result<()> {
         let (mut stream, _) = self.listener.accept()?;
-        let Some(index) = self.places.iter().position(|place| place.is_none()) else {
-            return Ok(());
-        };
+        let index = self.free_place();
         let both = Interest::READABLE | Interest::WRITABLE;
         self.poll
             .registry()
@@ -358,7 +379,20 @@ impl<'a> Sockets<'a> {
             *place = Some(Client::new(self.shared.alloc, stream, self.shared.now));
             self.count = self.count.saturating_add(1);
         }
+        self.from = index.saturating_add(1);
         Ok(())
+    }
+
+    /// A free place: the first after that of the client that came last, so that who comes later is
+    /// not answered before all others.
+    fn free_place(&self) -> usize {
+        for index in self.from..PLACES {
+            if let Some(None) = self.places.get(index) {
+                return index;
+            }
+        }
+        let first = self.places.iter().position(|place| place.is_none());
+        first.unwrap_or(PLACES)
     }
 
     fn step_all(&mut self) {
