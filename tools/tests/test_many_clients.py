@@ -237,8 +237,10 @@ def keeps_few_answers(folder):
 
 def takes_no_steady_client_for_an_idle_one(folder):
     """Of clients that all take 7 MB steadily, at 1 MB a second and together more than there is room for, each gets its
-    answer whole; and so does one that pauses for some seconds while five others send 16 MiB steadily."""
+    answer whole, and a report of 100 KB that comes meanwhile is answered; and so is a client that pauses for some
+    seconds while five others send 16 MiB steadily."""
     request = large_office(folder)
+    report = request_bytes("/v1/report", json.dumps({"arch": "amd64", "text": "\n" * 100000}))
     body = b'{"take":1,"x":"'
     large = request_bytes("/v1/built", body + b"a" * (16777216 - len(body) - 2) + b'"}')
 
@@ -255,7 +257,7 @@ def takes_no_steady_client_for_an_idle_one(folder):
             return length
 
     async def steady(port):
-        return await asyncio.gather(*(taken(port, 0) for _ in range(11)))
+        return await asyncio.gather(asked(port, b"", report, gap=1), *(taken(port, 0) for _ in range(11)))
 
     async def with_bodies(port):
         bodies = (asked(port, *pieces(large, 300000), gap=0.1) for _ in range(5))
@@ -263,8 +265,9 @@ def takes_no_steady_client_for_an_idle_one(folder):
 
     with errors(folder) as file, Server(folder, errors=file) as server:
         whole = len(server.says(request))
-        met = asyncio.run(steady(server.port))
+        answer, *met = asyncio.run(steady(server.port))
         expect(met == [whole] * 11, f"{sum(length < whole for length in met)} of 11 answers were cut: {met}")
+        expect(b'"accepted":4,' in answer, f"the report is answered {answer}")
         length, *met = asyncio.run(with_bodies(server.port))
         expect(met == [NOT_HELD] * 5, f"{sum(answer != NOT_HELD for answer in met)} bodies are answered otherwise")
         expect(length == whole, f"a client that paused got {length} of {whole} bytes")
