@@ -82,9 +82,8 @@ impl<'a> Clients for Network<'a> {
     }
 
     fn send(&mut self, place: usize) {
-        match self.served {
-            Served::Mute => self.sockets.remark(Remark::Mute),
-            _ => {}
+        if let Some(remark) = remark_of(self.served) {
+            self.sockets.remark(remark);
         }
         self.sockets.send(place, code_of(self.served), self.length);
         self.is_full = self.sockets.is_full();
@@ -109,6 +108,15 @@ fn give(place: &mut Option<Client>, history: &History, answer: Vec<u8>) -> Optio
         return None;
     }
     Some(client.answer(history, answer))
+}
+
+/// What is said of an exchange whose answer is missing or cut for want of memory.
+fn remark_of(served: Served) -> Option<Remark<'static>> {
+    match served {
+        Served::Mute => Some(Remark::Mute),
+        Served::WriteFailed { status } => Some(Remark::NotWritten(status.as_u16())),
+        Served::Nothing | Served::ReadFailed | Served::Answered { .. } => None,
+    }
 }
 
 /// The code of an answer's status, or 0 if an exchange ended without an answer.
