@@ -14,8 +14,8 @@
        1 once the program ends, and 0 before
 
    A part begins at the program's start, after each read of standard input, and after each connection that is accepted;
-   it ends before the next read or accept, and where the program ends. So a test that gives a program one line, and
-   waits until its part ended, refuses what is asked for within this line.
+   it ends before the next read, where the program waits for sockets while it has no connection, and where it ends. So a
+   test that gives a program one line, and waits until its part ended, refuses what is asked for within this line.
 
    A program that is made for such tests says itself where a part begins and ends, by a request that no memory can meet.
    It is refused with this library and without it. The first of these takes the parts away that are named above:
@@ -35,6 +35,7 @@
 #include <stddef.h>
 #include <stdint.h>
 #include <stdlib.h>
+#include <sys/epoll.h>
 #include <sys/mman.h>
 #include <sys/socket.h>
 #include <sys/syscall.h>
@@ -62,6 +63,11 @@ static int says_itself = 0;
 static int is_armed = 0;
 static int pauses = 0;
 static uint64_t refuse_at = 0;
+
+/* Which files are connections that were accepted, and how many are open. */
+enum { FILES = 4096 };
+static unsigned char is_connection[FILES];
+static int connections = 0;
 
 /* A part begins, of which the request of this number is refused. */
 static void begin(uint64_t number) {
@@ -205,11 +211,30 @@ ssize_t read(int file, void *room, size_t size) {
 }
 
 int accept4(int file, struct sockaddr *address, socklen_t *length, int flags) {
-    int got;
+    int got = (int)syscall(SYS_accept4, file, address, length, flags);
+    if (got < 0)
+        return got;
     before_waiting();
-    got = (int)syscall(SYS_accept4, file, address, length, flags);
     after_waiting();
+    if (got < FILES) {
+        is_connection[got] = 1;
+        connections += 1;
+    }
     return got;
+}
+
+int close(int file) {
+    if (file >= 0 && file < FILES && is_connection[file]) {
+        is_connection[file] = 0;
+        connections -= 1;
+    }
+    return (int)syscall(SYS_close, file);
+}
+
+int epoll_wait(int set, struct epoll_event *events, int most, int pause) {
+    if (connections == 0)
+        before_waiting();
+    return (int)syscall(SYS_epoll_wait, set, events, most, pause);
 }
 
 int accept(int file, struct sockaddr *address, socklen_t *length) {

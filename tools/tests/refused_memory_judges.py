@@ -15,9 +15,12 @@ from refused_memory_cases import accepted, answered
 AS_AMPLE, OUT_OF_MEMORY, CLOSED_BY_IT = "needless", "answered Memory", "answered Memory and closed"
 NO_ANSWER, NOT_OPENED, NOT_CLOSED = "accepted without a reply", "not opened", "not closed"
 WITHOUT_WORDS = "without room for the words"
+LET_GO, CUT_OFF = "let go before its request was read", "answered by a front"
 # What standard error says.
 NO_REPLY = "out of memory for the reply to an accepted command"
 NOT_ANSWERED = "a command was accepted, and not answered for want of memory"
+NOT_READ = "a request was not read to its end, and nothing was done for it"
+NOT_WRITTEN = "was not written to its end"
 LOST, AGAIN = "cannot be written, and commands go on without it", "is written again, and lacks 1 entries"
 NO_LINES, NO_ROUTES = "out of memory for the room that holds a line", "nothing can be served"
 LEFT_OPEN = "was not closed: out of memory"
@@ -141,6 +144,11 @@ def request_end(case, rows, end):
         return OUT_OF_MEMORY if end.goes_on else CLOSED_BY_IT
     if end.answer == b"" and stood and case.is_command and NOT_ANSWERED in end.said:
         return NO_ANSWER
+    if end.answer == b"" and end.rows == rows[0] and (end.again == first or is_left) and NOT_READ in end.said:
+        expect(end.goes_on, f"it ends so: {end}")
+        return LET_GO
+    if end.answer != first and first.startswith(end.answer) and stood and end.goes_on and NOT_WRITTEN in end.said:
+        return CUT_OFF
     raise Failure(f"it ends so: {end}")
 
 

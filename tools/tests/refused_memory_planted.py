@@ -14,8 +14,9 @@ from refused_memory_cases import AFTER_MERGE, AGAIN, BEGUN, CLOSED, COMMANDS, EM
 from refused_memory_cases import LINES, MEMORY, MEMORY_FAULT, MINE, MINE_OF_TAR, NEXT_HELLO, NEXT_TAR, NOT_HELD
 from refused_memory_cases import OPENINGS, RECORDS, REQUESTS, TAKEN, TAR, UNKNOWN_SOURCE
 from refused_memory_cases import accepted, answered, as_json, job, rows, shown
-from refused_memory_judges import AS_AMPLE, LOST, NO_ANSWER, NO_LINES, NO_REPLY, NO_ROUTES, NOT_ANSWERED, OUT_OF_MEMORY
-from refused_memory_judges import CloseEnd, LineEnd, MemoryEnd, RequestEnd, StartEnd, WordsEnd
+from refused_memory_judges import AS_AMPLE, LOST, NO_ANSWER, NO_LINES, NO_REPLY, NO_ROUTES, NOT_ANSWERED, NOT_READ
+from refused_memory_judges import NOT_WRITTEN, OUT_OF_MEMORY, CloseEnd, LineEnd, MemoryEnd, RequestEnd, StartEnd
+from refused_memory_judges import WordsEnd
 from refused_trial_cases import DAY, DAY_DONE, FAULT, GONE, LIVES, as_line, day, lives
 
 
@@ -156,7 +157,15 @@ def of_request(name, wrong_of):
     ended, silent = replace(full, goes_on=False), replace(ample, answer=b"", said=NOT_ANSWERED)
     right = [ample, full, replace(full, again=None), ended]
     right += [silent, replace(silent, goes_on=False)] if case.is_command else [replace(ample, again=None)]
+    unread, cut = replace(full, answer=b"", said=NOT_READ), replace(ample, answer=first[:9], said=NOT_WRITTEN)
+    right += [unread, replace(unread, again=None), cut, replace(cut, answer=b"")]
     wrong = wrong_of(ample, full, ended, silent)
+    # nothing is said of it, it is not the front of the answer, memory is still out, or the program has ended
+    wrong += [replace(unread, said=""), replace(cut, said=""), replace(cut, answer=NO_MEMORY[:20])]
+    wrong += [replace(unread, again=NO_MEMORY), replace(unread, goes_on=False), replace(cut, goes_on=False)]
+    if case.rows[0] != case.rows[1]:
+        # what was not read was carried out, or what was is lost
+        wrong += [replace(unread, rows=case.rows[1]), replace(cut, rows=case.rows[0])]
     return Planted(functools.partial(judges.request_end, case, case.rows), right, wrong)
 
 
