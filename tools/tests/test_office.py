@@ -74,7 +74,7 @@ def dry_run_changes_nothing(folder):
             expect(office.tree() == before, f"a dry run of {words[0]} changes files")
         office.do("start")
         before, keeper = office.tree(), office.keeper()
-        for words in (("stop",), ("backup", "--stop"), merge, ("run",)):
+        for words in (("stop",), ("backup", "--stop"), merge):
             _, steps = office.do("--dry-run", *words, stdin=office.lines(OPENING))
             expect("would stop" in steps, f"{words[0]}: {steps}")
             expect(words[0] == "stop" or "would start" in steps, f"{words[0]}: {steps}")
@@ -383,7 +383,7 @@ def starts_again_after_a_signal(folder):
         office.fault("sleep")
         words = [OFFICE, "--settings", office.conf, "run"]
         with subprocess.Popen(
-            words, stdin=office.lines(["add-builder b2 amd64"]), stderr=subprocess.PIPE, text=True
+            words, stdin=office.lines(["merge /nowhere amd64=/nowhere"]), stderr=subprocess.PIPE, text=True
         ) as run:
             for line in run.stderr:
                 if "give 1 lines" in line:

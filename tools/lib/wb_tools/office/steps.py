@@ -19,14 +19,18 @@ from wb_tools.office.files import (
     DATABASE, LOG, MAGIC, Files, beside, copy_file, is_locked, links_to_lists, read_sums,
     removed_after, removed_on_failure, sync_folder, write_sums,
 )
+from wb_tools.office.lines import Line, read_lines
 from wb_tools.office.merges import (
-    Merge, archs_of, ask_served, lines_of, look_at_lists, parts_of, report_parts,
+    ANSWER, Merge, archs_of, ask_served, lines_of, look_at_lists, parts_of, report_parts,
 )
 from wb_tools.office.prune import backups_in, bytes_of
+from wb_tools.office.sending import Sender, write_answers
 from wb_tools.office.service import ASK_AGAIN, PidFile, Systemd, answers, listens
 from wb_tools.office.settings import DONE, FAILED, NOT_RUNNING, WRONG_WORDS, Owner, Refusal, Settings, tell
+from wb_tools.wanna_build.office import Office as Served
 
 SPARE_ROOM = 16 << 20  # bytes that a backup leaves free
+STARTING = 10  # seconds for an office that begins to serve
 SOON = 60  # seconds: a service that ends earlier than this counts as one that failed to start
 MOST_FAILURES = 5
 
@@ -391,21 +395,57 @@ class Office:
     def give(self, lines: bytes) -> str:
         """Gives the office lines, shows its answers, and answers them."""
         status, answered, said = self.call_program(self.settings.store, lines, self.settings.journal_words())
-        sys.stdout.write(answered)
-        sys.stdout.flush()
+        write_answers(answered.encode())
         sys.stderr.write(said)
         if status != 0:
             raise Refusal(f"the program ended with {status}: " + MEANING.get(status, "it was killed, or failed"))
         return answered
 
     def run(self, lines: bytes) -> None:
-        """Stops the service, gives the office lines, and starts the service again."""
+        """Sends lines to the office while it is served, if each of them can be answered so. Else it stops the service,
+        gives the program the lines, and starts the service again."""
         if not lines.strip():
             raise Refusal("standard input has no line for the office", WRONG_WORDS)
         self.require_ready()
+        sent = self.lines_to_send(lines)
+        if sent is not None:
+            self.send(sent)
+            return
         with self.stopped():
             if self.step(f"give {lines.count(10)} lines to {self.settings.program} --store {self.settings.store} run"):
                 self.give(lines)
+
+    def lines_to_send(self, lines: bytes) -> list[Line] | None:
+        """The lines that are sent to the office; none if it is not served, or one of them needs the file."""
+        if not self.service.runs():
+            return None
+        found = list(read_lines(lines))
+        alone = next((line for line in found if not line.is_known), None)
+        if alone is not None:
+            tell(f"{alone}: {alone.why}, so the service is stopped for these lines")
+        elif self.takes_lines():
+            return found
+        else:
+            tell(f"what serves on port {self.settings.port} takes no lines, so the service is stopped for them")
+        return None
+
+    def takes_lines(self) -> bool:
+        """Whether the office answers, and knows the requests of lines; one that begins to serve has some seconds."""
+        end = time.monotonic() + min(self.settings.wait, STARTING)
+        while True:
+            said = ask_served(self.settings.port, "/v1/enter")
+            if said or time.monotonic() > end:
+                return said.get("http") == "WrongMethod"
+            time.sleep(ASK_AGAIN)
+
+    def send(self, lines: Sequence[Line]) -> None:
+        """Sends the serving office lines, and shows its answers."""
+        port = self.settings.port
+        if not self.step(f"send {len(lines)} lines to the office that serves on port {port}"):
+            return
+        status = Sender(Served(port, ANSWER), self.service.runs, self.settings.wait).send(lines)
+        if status != 0:
+            raise Refusal(f"the lines ended with {status}: {MEANING[status]}")
 
     def merge(
         self, merges: Sequence[Merge], reports: Sequence[tuple[str, str]], most_removed: int | None, looks: bool
@@ -504,4 +544,4 @@ class Office:
         return f"{folders[-1]}, {hours:.1f} hours old, one of {len(folders)}; {size} bytes in {self.settings.backups}"
 
 
-MEANING = {1: "a line was refused", 2: "a line was malformed", 3: "a list or the file of the records failed"}
+MEANING = {1: "a line was refused", 2: "a line was malformed", 3: "a list, a report or the file of the records failed"}

@@ -1,4 +1,4 @@
-"""Requests to a serving office, for tools/bin/wanna-build."""
+"""Requests to a serving office, for tools/bin/wanna-build and others."""
 from __future__ import annotations
 
 import json
@@ -27,6 +27,10 @@ class NoAnswer(Exception):
     """There is no answer, or none that says what became of the request: it is to be sent again."""
 
 
+class NotSent(NoAnswer):
+    """No connection was made: the office did not get the request."""
+
+
 @dataclass(frozen=True)
 class Refusal:
     """What an office refused, in its own word."""
@@ -47,17 +51,7 @@ class Office:
 
     def ask(self, method: str, path: str, body: Record | None = None) -> Record | Refusal:
         """What is answered to a request, if it is answered whole."""
-        text = b"" if body is None else json.dumps(body).encode()
-        length = f"Content-Length: {len(text)}\r\n" if body is not None else ""
-        request = f"{method} {path} HTTP/1.1\r\nHost: 127.0.0.1\r\n{length}Connection: close\r\n\r\n".encode() + text
-        try:
-            answer = self.exchange(request)
-        except OSError as error:
-            raise NoAnswer(f"no answer from port {self.port} of 127.0.0.1: {error}") from None
-        head, _, rest = answer.partition(b"\r\n\r\n")
-        said_length = re.search(rb"(?i)\r\ncontent-length: *([0-9]+)", head)
-        if not said_length or int(said_length[1]) != len(rest):
-            raise NoAnswer(f"no answer, or a part of one, from port {self.port} of 127.0.0.1")
+        rest = self.answer(method, path, None if body is None else json.dumps(body).encode())
         try:
             said = json.loads(rest)
         except (ValueError, RecursionError):
@@ -66,11 +60,31 @@ class Office:
             raise NoAnswer(f"what answers on port {self.port} of 127.0.0.1 is no office")
         return self.judged(said, f"{method} {path}")
 
+    def answer(self, method: str, path: str, text: bytes | None = None) -> bytes:
+        """The bytes that are answered to a request with this body, if they are answered whole."""
+        length = f"Content-Length: {len(text)}\r\n" if text is not None else ""
+        head = f"{method} {path} HTTP/1.1\r\nHost: 127.0.0.1\r\n{length}Connection: close\r\n\r\n"
+        try:
+            answer = self.exchange(head.encode() + (text or b""))
+        except OSError as error:
+            raise NoAnswer(f"no answer from port {self.port} of 127.0.0.1: {error}") from None
+        head_of, _, rest = answer.partition(b"\r\n\r\n")
+        said_length = re.search(rb"(?i)\r\ncontent-length: *([0-9]+)", head_of)
+        if not said_length or int(said_length[1]) != len(rest):
+            raise NoAnswer(f"no answer, or a part of one, from port {self.port} of 127.0.0.1")
+        return rest
+
+    def connect(self) -> socket.socket:
+        try:
+            return socket.create_connection(("127.0.0.1", self.port), timeout=self.seconds)
+        except OSError as error:
+            raise NotSent(f"no answer from port {self.port} of 127.0.0.1: {error}") from None
+
     def exchange(self, request: bytes) -> bytes:
         """All that is answered until the connection is closed."""
         end = time.monotonic() + self.seconds
         parts, size = [], 0
-        with socket.create_connection(("127.0.0.1", self.port), timeout=self.seconds) as link:
+        with self.connect() as link:
             link.sendall(request)
             while part := link.recv(1 << 16):
                 parts.append(part)

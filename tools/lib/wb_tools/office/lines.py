@@ -1,0 +1,191 @@
+"""Lines of a run as the requests that ask the same, for tools/bin/office: how the program reads a line stands in
+docs/PROTOCOL.md, "Lines" and "Words", and what a request has in docs/HTTP.md, "Requests"."""
+from __future__ import annotations
+
+import json
+import os
+import re
+import stat
+from collections.abc import Iterator, Sequence
+from dataclasses import dataclass
+from typing import Any
+
+from wb_tools.answers import QUERIES, path_of
+
+MOST_LINE = 65536  # bytes of a line
+MOST_BODY = 16777216  # bytes of the body of a request
+MOST_PATH = 8000  # bytes of a path: with its fields it has room in a head
+
+# The arguments of each command, as HTTP names them; two dots mark a last one of several words.
+COMMANDS = {
+    "add-arch": "name os cpu",
+    "add-builder": "name arch",
+    "enter": "arch source version priority section",
+    "next": "arch builder",
+    "take": "arch builder source version",
+    "built": "take",
+    "uploaded": "take",
+    "waits": "take relations..",
+    "attempted": "take reason..",
+    "put-back": "take",
+    "give-back": "arch source version",
+    "dep-wait": "arch source version relations..",
+    "fail": "arch source version note..",
+    "not-for-us": "arch source version note..",
+    "rebuild": "arch source version number message..",
+    "build-priority": "arch source version value",
+    "merge": "sources parts..",
+    "report": "arch file",
+}
+MAY_BE_EMPTY = {"reason", "note", "message"}
+NATURAL = (0, 2**64 - 1)
+NUMBERS = {"take": NATURAL, "number": NATURAL, "after": NATURAL, "value": (-(2**63), 2**63 - 1)}
+
+
+class Fault(Exception):
+    """What the program answers to a line without asking the office, `line` or `file`, and why."""
+
+    def __init__(self, name: str, why: str) -> None:
+        super().__init__(why)
+        self.name = name
+
+
+class NoRequest(Exception):
+    """Why no request asks what a line asks."""
+
+
+@dataclass(frozen=True)
+class Line:
+    """A line that is not blank. It has the path of its request, and the body if that is no query; or the fault that is
+    answered to it, and why; or else why it has no request."""
+
+    number: int
+    text: str
+    path: str = ""
+    body: bytes | None = None
+    fault: str = ""
+    why: str = ""
+
+    @property
+    def is_known(self) -> bool:
+        """Whether it can be answered while the office is served."""
+        return bool(self.path or self.fault)
+
+    def __str__(self) -> str:
+        return f"line {self.number} ({self.text[:100]})" if self.text.isprintable() else f"line {self.number}"
+
+
+def read_lines(data: bytes) -> Iterator[Line]:
+    """The lines that a run answers, of these bytes: after one that is too long none is read."""
+    for number, line in enumerate(data.split(b"\n"), 1):
+        if len(line) > MOST_LINE:
+            yield Line(number, "", fault="line", why=f"it has more than {MOST_LINE} bytes; nothing after it is read")
+            return
+        if line.strip(b" \t"):
+            yield read_line(number, line)
+
+
+def read_line(number: int, line: bytes) -> Line:
+    try:
+        text = line.decode().strip(" \t")
+    except UnicodeDecodeError:
+        return Line(number, "", fault="line", why="it is not UTF-8")
+    try:
+        return Line(number, text, *request_of(re.split("[ \t]+", text)))
+    except Fault as fault:
+        return Line(number, text, fault=fault.name, why=str(fault))
+    except NoRequest as why:
+        return Line(number, text, why=str(why))
+
+
+def request_of(words: Sequence[str]) -> tuple[str, bytes | None]:
+    """The path and the body of the request for a line."""
+    command = words[0]
+    if command in QUERIES:
+        keys = [word.lower() for word in QUERIES[command][0]]
+        path = path_of(command, list(arguments_of(words, keys).values()))
+        if len(path) > MOST_PATH:
+            raise NoRequest("its words are too long for a request")
+        return path, None
+    if command not in COMMANDS:
+        raise Fault("line", f"there is no command {command}")
+    arguments = arguments_of(words, COMMANDS[command].split())
+    if command == "merge":
+        raise NoRequest("a merge has no request")
+    if command == "report":
+        arguments["text"] = report_text(arguments.pop("file"))
+    body = json.dumps(arguments, ensure_ascii=False, separators=(",", ":")).encode()
+    if len(body) > MOST_BODY:
+        raise NoRequest(f"its request would have more than {MOST_BODY} bytes")
+    return f"/v1/{command}", body
+
+
+def arguments_of(words: Sequence[str], keys: Sequence[str]) -> dict[str, Any]:
+    """The arguments of a line by their keys."""
+    values, after = parted(words)
+    found: dict[str, Any] = {}
+    if keys and keys[-1].endswith(".."):
+        joined = " ".join(values[len(keys) - 1 :])
+        values = [*values[: len(keys) - 1], *([joined] if joined or keys[-1][:-2] in MAY_BE_EMPTY else [])]
+    for key, value in zip((key.removesuffix("..") for key in keys), values):
+        found[key] = number_of(key, value) if key in NUMBERS else value
+    if len(values) < len(keys):
+        raise Fault("line", f"{words[0]} lacks its argument {keys[len(values)].removesuffix('..')}")
+    if len(values) > len(keys):
+        raise Fault("line", f"{words[0]} has a word too many, {values[len(keys)]}")
+    if after is not None:
+        found["after"] = number_of("after", after)
+    return found
+
+
+def parted(words: Sequence[str]) -> tuple[list[str], str | None]:
+    """The arguments among the words of a line, and what stands after --after."""
+    command, rest = words[0], list(words[1:])
+    values: list[str] = []
+    after = None
+    while rest:
+        word = rest.pop(0)
+        is_value = command == "build-priority" and not rest and re.fullmatch("-[0-9]+", word)
+        if word == "--":
+            return values + rest, after
+        if not is_option(word) or is_value:
+            values.append(word)
+            continue
+        name, equals, value = word.partition("=")
+        if command != "next" or name != "--after" or after is not None:
+            raise Fault("line", f"{word} is no option of {command}, or stands twice")
+        if not equals and (not rest or is_option(rest[0])):
+            raise Fault("line", "--after lacks its number")
+        after = value if equals else rest.pop(0)
+    return values, after
+
+
+def is_option(word: str) -> bool:
+    return len(word) > 1 and word.startswith("-")
+
+
+def number_of(key: str, word: str) -> int:
+    least, greatest = NUMBERS[key]
+    found = re.fullmatch("([+-]?)0*([0-9]{1,20})", word) if least else re.fullmatch("([+]?)0*([0-9]{1,20})", word)
+    number = int(found[1] + found[2]) if found else None
+    if number is None or not least <= number <= greatest:
+        raise Fault("line", f"{key} is {word}, and has to be a whole number from {least} to {greatest}")
+    return number
+
+
+def report_text(name: str) -> str:
+    """The text of a report, a file that can be read again if it is too large for a request."""
+    try:
+        mode = os.stat(name)
+        if not stat.S_ISREG(mode.st_mode) and not stat.S_ISDIR(mode.st_mode):
+            raise NoRequest(f"{name} is no file that can be read again")
+        if mode.st_size > MOST_BODY:
+            raise NoRequest(f"{name} has more bytes than the body of a request")
+        with open(name, "rb") as file:
+            return file.read().decode()
+    except OSError as error:
+        raise Fault("file", f"{name} cannot be read: {error.strerror}") from None
+    except UnicodeDecodeError:
+        raise Fault("file", f"{name} is not UTF-8") from None
+    except ValueError as error:
+        raise Fault("file", f"{name} cannot be read: {error}") from None

@@ -1,0 +1,238 @@
+#!/usr/bin/env python3
+"""Tests of the lines that tools/bin/office gives an office: by requests while it is served, and else by a run over its
+file. Both have to give the same bytes and the same status, and requests stop nothing.
+
+    tools/tests/test_office_lines.py [NAME..]     these tests, or all
+
+From the environment: WB is the program, crates/wb/out/wb of this repository where it is not set.
+"""
+import json
+import os
+import random
+import signal
+import subprocess
+import sys
+
+from harness import SEED, WAIT, call, expect, main, program
+from package_runs import OFFICE, Trial, wait_until
+from wanna_build_runs import Gate
+
+LONG = "x" * 9000
+# Runs of lines, each with the status of tools/bin/office for it. REPORT and others stand for files of a folder.
+RUNS = [
+    (0, ["add-arch arm64 linux arm64", "add-builder b2 arm64", "enter arm64 hello 1.0 optional devel",
+         "next amd64 b1", "next amd64 b1 --after 0", "next --after=+0 amd64 b1", "built 1", "uploaded +01",
+         "give-back amd64 tar 1.30", "next amd64 b1", "waits 2 libc6 (>= 2), x  |  y", "mine b1", "queue amd64",
+         "summary amd64", "by-state amd64 Dep-Wait", "item amd64 hello", "depends amd64 hello", "", " \t",
+         "take arm64 b2 hello 1.0", "attempted 3", "give-back arm64 hello 1.0",
+         "take arm64 b2 hello 1.0", "attempted 4 \"é\" \x01\x7f\u2028 \\ -", "give-back arm64 hello 1.0",
+         "take arm64 b2 hello 1.0", "put-back 5", "fail arm64 hello 1.0 -- -a -- b", "give-back arm64 hello 1.0",
+         "not-for-us arm64 hello 1.0", "build-priority arm64 hello 1.0 -50", "build-priority arm64 hello 1.0 -- +7",
+         "dep-wait amd64 tar 1.30 libx", "item amd64 tar", "item arm64 hello"]),
+    (1, ["add-arch amd64 linux amd64", "add-arch all linux amd64", "add-arch x Linux amd64", "add-builder b1 amd64",
+         "add-builder b/1 amd64", "add-builder b3 none", "enter amd64 hello 1.0 optional devel",
+         "enter amd64 Hello 1.0 optional devel", "enter amd64 hello 1_0 optional devel",
+         "enter none hello 1.0 optional devel", "next amd64 none", "next amd64 b1 --after 999", "take amd64 b2 tar 1.30",
+         "built 18446744073709551615", "waits 1 (", "give-back amd64 none 1.0", "give-back amd64 tar 2.0",
+         "rebuild amd64 tar 1.30 0", "rebuild amd64 tar 1.30 1 for libc6", "build-priority amd64 tar 1.30 9000",
+         f"fail amd64 tar 1.30 {'é' * 600}", "item amd64 ../x", "item amd64 %41?", "item none tar", "by-state amd64 x",
+         "mine b?", "queue none", "depends amd64 none", "summary all", "item amd64 \x01é"]),
+    (1, ["nonsense", "help", "--", "--help", "queue", "queue amd64 amd64", "queue amd64 -h", "built one", "built -1",
+         "built 18446744073709551616", "next amd64 b1 --after", "next amd64 b1 --before 1", "fail amd64 tar",
+         "waits 1", "build-priority amd64 -5 1.30 5", "merge", "report amd64", b"queue \xff", "\r", "summary amd64"]),
+    (1, ["report amd64 REPORT", "report none REPORT", "report amd64 BAD", "report amd64 EMPTY", "report amd64 NOWHERE",
+         "report amd64 FOLDER", "report amd64 LATIN", "nonsense", "report all NOWHERE", "item amd64 tar"]),
+    (1, ["queue amd64", "x" * 65537, "merge a amd64=b", "queue amd64"]),
+    (1, ["queue amd64", " " * 65536, "fail amd64 tar 1.30 " + "x" * 65516, "summary amd64"]),
+]  # fmt: skip
+
+
+def make_reports(folder):
+    """The files that lines of RUNS name."""
+    texts = {
+        "REPORT": "hello 1.0 uninstallable é is \"missing\"\n\ntar 1.30 installable", "BAD": "tar 1.30\n", "EMPTY": "",
+        "LATIN": b"tar 1.30 uninstallable \xe9\n",
+    }
+    for name, text in texts.items():
+        (folder / name).write_bytes(text if isinstance(text, bytes) else text.encode())
+    (folder / "FOLDER").mkdir()
+
+
+def given(office, lines, wanted, **options):
+    """The bytes that are answered to lines on standard output, and what is said on standard error."""
+    data = b"\n".join(line if isinstance(line, bytes) else line.encode() for line in lines)
+    return call(
+        [OFFICE, "--settings", office.conf, "run"], wanted, cwd=office.conf.parent, stdin=None, text=None, input=data,
+        **options,
+    )
+
+
+def offices(folder):
+    """Two offices that are alike, of which the second is served."""
+    found = []
+    for name in ("idle", "served"):
+        (folder / name).mkdir()
+        make_reports(folder / name)
+        found.append(Trial(folder / name))
+        found[-1].fill()
+    found[1].do("start")
+    return found
+
+
+def answers_alike(folder):
+    idle, served = offices(folder)
+    with idle, served:
+        process = served.server()
+        for wanted, lines in RUNS:
+            one, two = given(idle, lines, wanted), given(served, lines, wanted)
+            for line, other in zip(one[0].splitlines(), two[0].splitlines()):
+                expect(line == other, f"{line} of a run is {other} of requests")
+            expect(one[0] == two[0] and one[0].endswith(b"}\n"), f"{lines[0]}: {one[0][-300:]} and {two[0][-300:]}")
+            ends = [said.decode().rpartition(" ended with ")[2] for _, said in (one, two)]
+            expect(ends[0] == ends[1], f"{lines[0]}: {ends}")
+        expect(served.server() == process, "another process serves")
+
+
+def random_word(rng):
+    words = (
+        "amd64 b1 hello 1.0 tar 1.30 - -- -5 +5 5 0 1 2 --after --after=1 --after=x -h é a/b % ? Needs-Build "
+        "18446744073709551616 \r none REPORT"
+    )
+    return rng.choice([*words.split(" "), ""])
+
+
+def random_line(rng):
+    """A line that may be right, or has a word more, less or another."""
+    forms = (
+        "enter amd64 hello 1.0 a b/next amd64 b1/next amd64 b1 --after 1/take amd64 b1 hello 1.0/built 1/uploaded 1/"
+        "waits 1 libc6 | x/attempted 2 a  b/put-back 2/give-back amd64 hello 1.0/dep-wait amd64 tar 1.30 x, y/"
+        "fail amd64 tar 1.30 a b/not-for-us amd64 hello 1.0/rebuild amd64 tar 1.30 2 x/build-priority amd64 tar 1.30 -5/"
+        "report amd64 REPORT/queue amd64/summary amd64/by-state amd64 Building/item amd64 hello/depends amd64 tar/mine b1"
+    )
+    words = rng.choice(forms.split("/")).split(" ")
+    for _ in range(rng.choice([0, 0, 0, 1, 1, 2])):
+        at = rng.randrange(len(words) + 1)
+        words[at : at + rng.randrange(2)] = [random_word(rng)] * rng.randrange(2)
+    return rng.choice([" ", " ", "\t", "  "]).join(words)
+
+
+def answers_random_lines_alike(folder):
+    rng = random.Random(62 + SEED)
+    idle, served = offices(folder)
+    with idle, served:
+        for _ in range(3):
+            lines = [*(random_line(rng) for _ in range(300)), "nonsense"]
+            one, two = given(idle, lines, 1)[0].splitlines(), given(served, lines, 1)[0].splitlines()
+            for line, other in zip(one, two):
+                expect(line == other, f"{line} of a run is {other} of requests")
+            expect(len(one) == len(two), "there are more answers")
+
+
+def stops_nothing(folder):
+    """The process stays for each command; a journal has them all."""
+    journal = folder / "journal"
+    with Trial(folder, JOURNAL=journal) as office:
+        make_reports(folder)
+        office.fill()
+        office.do("start")
+        keeper, process = office.keeper(), office.server()
+        for line in (
+            "add-arch arm64 linux arm64", "add-builder b9 arm64", "enter arm64 new 1.0 optional devel",
+            "fail arm64 new 1.0 broken", "give-back arm64 new 1.0", f"report amd64 {folder / 'REPORT'}",
+        ):
+            _, said = office.do("--dry-run", "run", stdin=office.lines([line]))
+            expect("would send 1 lines" in said, said)
+            answer, said = office.do("run", stdin=office.lines([line]))
+            expect(json.loads(answer)["ok"] == line.split()[0] and "stop the service" not in said, f"{answer}{said}")
+        expect((office.keeper(), office.server()) == (keeper, process), "the service was stopped")
+        counts = [json.loads(line)["accepted"] for line in journal.read_text().splitlines()]
+        expect(counts == list(range(1, 11)), f"the journal has {counts}")
+
+
+def stops_for_what_has_no_request(folder):
+    """It is said before the service is stopped, nothing is sent before, and the service runs again."""
+    with Trial(folder) as office:
+        office.fill()
+        office.do("start")
+        (folder / "Sources").write_text("")
+        (folder / "large").write_text("\n" * (1 << 24))
+        os.mkfifo(folder / "pipe")
+        merge = f"merge {folder}/Sources amd64={folder}/Sources"
+        for at, (line, why, ok) in enumerate([
+            (f"report amd64 {folder}/large", "16777216 bytes", True), (f"item amd64 {LONG}", "too long", False),
+            (f"report amd64 {folder}/pipe", "can be read again", True), (merge, "a merge has no request", True),
+        ]):
+            process = office.server()
+            lines = [f"add-builder b{at + 5} amd64", line, "queue amd64"]
+            with subprocess.Popen(["sh", "-c", f"[ {at} != 2 ] || : > {folder}/pipe"]) as writer:
+                said, steps = office.do("run", stdin=office.lines(lines), wanted=0 if ok else 1)
+                writer.wait(WAIT)
+            expect(why in steps and steps.index("line 2 ") < steps.index("stop the service"), steps)
+            expect('"ok":"add-builder"' in said and office.runs(), f"{said}{steps}")
+            expect(office.server() != process, f"the service was not stopped for {line[:40]}")
+        _, steps = office.do("--dry-run", "run", stdin=office.lines([merge]))
+        expect("would stop the service" in steps and "a merge has no request" in steps, steps)
+
+
+def says_which_line_is_in_doubt(folder):
+    """An answer that is lost: the line stands, it is named, and nothing after it is sent. A query is sent again."""
+    with Trial(folder) as office:
+        office.fill()
+        office.do("start")
+        gate = Gate(office)
+        try:
+            office.settings["PORT"] = gate.port
+            office.write_settings()
+            gate.lose += [("/v1/queue/", "answer"), ("/v1/add-builder", "answer")]
+            lines = ["queue amd64", "enter amd64 new 1.0 a b", "", "add-builder b5 amd64", "add-builder b6 amd64"]
+            said, steps = office.do("run", stdin=office.lines(lines), wanted=3)
+            expect([json.loads(line).get("ok") for line in said.splitlines()] == [None, "enter"], said)
+            expect("line 4 (add-builder b5 amd64) is in doubt" in steps and "stop the service" not in steps, steps)
+        finally:
+            gate.close()
+            office.settings["PORT"] = office.port
+            office.write_settings()
+        said, _ = office.do("run", stdin=office.lines(["mine b5", "mine b6"]), wanted=1)
+        expect("UnknownBuilder" in said.splitlines()[1] and "UnknownBuilder" not in said.splitlines()[0], said)
+
+
+def ends_where_the_office_is_stopped(folder):
+    """What was answered stands, the line that was not is named, and none after it is carried out."""
+    with Trial(folder) as office:
+        office.fill()
+        office.do("start")
+        lines = [f"enter amd64 p{at} 1.0 a b" for at in range(5000)]
+        words = [OFFICE, "--settings", office.conf, "run"]
+        with subprocess.Popen(
+            words, stdin=office.lines(lines), stdout=subprocess.PIPE, stderr=subprocess.PIPE, text=True
+        ) as run:
+            first = run.stdout.readline()
+            os.kill(office.keeper(), signal.SIGTERM)
+            rest, said = run.communicate(timeout=WAIT)
+        answered = len((first + rest).splitlines())
+        expect(run.returncode == 3 and 0 < answered < 5000, f"status {run.returncode}, {answered} answers: {said}")
+        expect(f"line {answered + 1} (enter amd64 p{answered} 1.0 a b)" in said, said)
+        wait_until(lambda: not office.runs(), "the service still runs")
+        have = [office.has(f"p{at}") for at in (0, answered - 1, answered, answered + 1, 4999)]
+        expect(have[:2] == [True, True] and have[3:] == [False, False], f"it has {have}")
+        expect("is in doubt" in said or not have[2], f"a line that stands is said not to: {said}")
+
+
+def goes_on_while_the_program_starts_anew(folder):
+    """A program whose connections are used up is started again; a line that it did not get is sent then."""
+    with Trial(folder, REQUESTS=7) as office:
+        office.fill()
+        office.do("start")
+        lines = [f"item amd64 p{at}" for at in range(30)]
+        said, _ = office.do("run", stdin=office.lines(lines), wanted=1)
+        expect(said.count("UnknownSource") == 30, said)
+
+
+TESTS = [
+    answers_alike, answers_random_lines_alike, stops_nothing, stops_for_what_has_no_request,
+    says_which_line_is_in_doubt, ends_where_the_office_is_stopped, goes_on_while_the_program_starts_anew,
+]  # fmt: skip
+
+if __name__ == "__main__":
+    program()
+    sys.exit(main(TESTS))
