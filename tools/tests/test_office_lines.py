@@ -22,17 +22,17 @@ LONG = "x" * 9000
 RUNS = [
     (0, ["add-arch arm64 linux arm64", "add-builder b2 arm64", "enter arm64 hello 1.0 optional devel",
          "next amd64 b1", "next amd64 b1 --after 0", "next --after=+0 amd64 b1", "built 1", "uploaded +01",
-         "give-back amd64 tar 1.30", "next amd64 b1", "waits 2 libc6 (>= 2), x  |  y", "mine b1", "queue amd64",
+         "give-back amd64 tar 1.30", "next amd64 b1", "waits 2 libc6 (>= 2), xx  |  yy", "mine b1", "queue amd64",
          "summary amd64", "by-state amd64 Dep-Wait", "item amd64 hello", "depends amd64 hello", "", " \t",
          "take arm64 b2 hello 1.0", "attempted 3", "give-back arm64 hello 1.0",
          "take arm64 b2 hello 1.0", "attempted 4 \"é\" \x01\x7f\u2028 \\ -", "give-back arm64 hello 1.0",
          "take arm64 b2 hello 1.0", "put-back 5", "fail arm64 hello 1.0 -- -a -- b", "give-back arm64 hello 1.0",
          "not-for-us arm64 hello 1.0", "build-priority arm64 hello 1.0 -50", "build-priority arm64 hello 1.0 -- +7",
-         "dep-wait amd64 tar 1.30 libx", "item amd64 tar", "item arm64 hello"]),
+         "give-back amd64 tar 1.30", "dep-wait amd64 tar 1.30 libx", "item amd64 tar", "item arm64 hello"]),
     (1, ["add-arch amd64 linux amd64", "add-arch all linux amd64", "add-arch x Linux amd64", "add-builder b1 amd64",
          "add-builder b/1 amd64", "add-builder b3 none", "enter amd64 hello 1.0 optional devel",
          "enter amd64 Hello 1.0 optional devel", "enter amd64 hello 1_0 optional devel",
-         "enter none hello 1.0 optional devel", "next amd64 none", "next amd64 b1 --after 999", "take amd64 b2 tar 1.30",
+         "enter none hello 1.0 optional devel", "next amd64 none", "next amd64 b1 --after 99", "take amd64 b2 tar 1.30",
          "built 18446744073709551615", "waits 1 (", "give-back amd64 none 1.0", "give-back amd64 tar 2.0",
          "rebuild amd64 tar 1.30 0", "rebuild amd64 tar 1.30 1 for libc6", "build-priority amd64 tar 1.30 9000",
          f"fail amd64 tar 1.30 {'é' * 600}", "item amd64 ../x", "item amd64 %41?", "item none tar", "by-state amd64 x",
@@ -88,7 +88,7 @@ def answers_alike(folder):
             for line, other in zip(one[0].splitlines(), two[0].splitlines()):
                 expect(line == other, f"{line} of a run is {other} of requests")
             expect(one[0] == two[0] and one[0].endswith(b"}\n"), f"{lines[0]}: {one[0][-300:]} and {two[0][-300:]}")
-            ends = [said.decode().rpartition(" ended with ")[2] for _, said in (one, two)]
+            ends = [said.decode().partition(" ended with ")[2][:1] for _, said in (one, two)]
             expect(ends[0] == ends[1], f"{lines[0]}: {ends}")
         expect(served.server() == process, "another process serves")
 
@@ -105,9 +105,10 @@ def random_line(rng):
     """A line that may be right, or has a word more, less or another."""
     forms = (
         "enter amd64 hello 1.0 a b/next amd64 b1/next amd64 b1 --after 1/take amd64 b1 hello 1.0/built 1/uploaded 1/"
-        "waits 1 libc6 | x/attempted 2 a  b/put-back 2/give-back amd64 hello 1.0/dep-wait amd64 tar 1.30 x, y/"
-        "fail amd64 tar 1.30 a b/not-for-us amd64 hello 1.0/rebuild amd64 tar 1.30 2 x/build-priority amd64 tar 1.30 -5/"
-        "report amd64 REPORT/queue amd64/summary amd64/by-state amd64 Building/item amd64 hello/depends amd64 tar/mine b1"
+        "waits 1 libc6 | xx/attempted 2 a  b/put-back 2/give-back amd64 hello 1.0/dep-wait amd64 tar 1.30 xx, yy/"
+        "fail amd64 tar 1.30 a b/not-for-us amd64 hello 1.0/rebuild amd64 tar 1.30 2 x/report amd64 REPORT/"
+        "build-priority amd64 tar 1.30 -5/queue amd64/summary amd64/by-state amd64 Building/item amd64 hello/"
+        "depends amd64 tar/mine b1"
     )
     words = rng.choice(forms.split("/")).split(" ")
     for _ in range(rng.choice([0, 0, 0, 1, 1, 2])):

@@ -58,7 +58,8 @@ exit statuses:
   0  done; of status: the service runs and answers
   1  a step failed or was refused, or the office refused a line; the message says which
   2  the words or the settings are wrong; nothing was done
-  3  the service does not run; of merge, run and backup: it ran before and could not be started again
+  3  the service does not run; of merge, run and backup: it ran before and could not be started again; of run also: an
+     answer was lost, and the message names the line that is in doubt
 """
 
 
@@ -129,7 +130,7 @@ def parser() -> argparse.ArgumentParser:
     )
     below.add_parser("prune", help="remove the backups that neither KEEP_BACKUPS nor KEEP_DAYS keeps")
     add_merge(below)
-    below.add_parser("run", help="stop, give the office the lines of standard input, start")
+    below.add_parser("run", help="give the office the lines of standard input, without a stop if none is a merge")
     below.add_parser("ready", help="end with 0 if there is an office that may be served; what the unit asks first")
     below.add_parser("keep", help="serve in the foreground, again and again, for those without systemd")
     for command in below.choices.values():  # it may stand after the command too
