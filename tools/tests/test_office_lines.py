@@ -219,6 +219,28 @@ def ends_where_the_office_is_stopped(folder):
         expect("is in doubt" in said or not have[2], f"a line that stands is said not to: {said}")
 
 
+def says_where_a_signal_ended_it(folder):
+    """The line that was being sent is named; those before it stand, and none after it."""
+    with Trial(folder) as office:
+        office.fill()
+        office.do("start")
+        process = office.server()
+        lines = [f"enter amd64 p{at} 1.0 a b" for at in range(5000)]
+        words = [OFFICE, "--settings", office.conf, "run"]
+        with subprocess.Popen(
+            words, stdin=office.lines(lines), stdout=subprocess.PIPE, stderr=subprocess.PIPE, text=True
+        ) as run:
+            first = run.stdout.readline()
+            run.send_signal(signal.SIGTERM)
+            rest, said = run.communicate(timeout=WAIT)
+        answered = len((first + rest).splitlines())
+        expect(run.returncode == 128 + signal.SIGTERM and answered < 5000, f"status {run.returncode}: {said}")
+        named = [f"ended at line {at} (" in said for at in (answered, answered + 1)]
+        expect(any(named) and "in doubt" in said, f"after {answered} answers it says {said}")
+        said, _ = office.do("run", stdin=office.lines([f"item amd64 p{answered + 1}"]), wanted=1)
+        expect("UnknownSource" in said and office.server() == process, "a line after it was sent")
+
+
 def goes_on_while_the_program_starts_anew(folder):
     """A program whose connections are used up is started again; a line that it did not get is sent then."""
     with Trial(folder, REQUESTS=7) as office:
@@ -231,7 +253,8 @@ def goes_on_while_the_program_starts_anew(folder):
 
 TESTS = [
     answers_alike, answers_random_lines_alike, stops_nothing, stops_for_what_has_no_request,
-    says_which_line_is_in_doubt, ends_where_the_office_is_stopped, goes_on_while_the_program_starts_anew,
+    says_which_line_is_in_doubt, ends_where_the_office_is_stopped, says_where_a_signal_ended_it,
+    goes_on_while_the_program_starts_anew,
 ]  # fmt: skip
 
 if __name__ == "__main__":

@@ -1,15 +1,16 @@
 """Lines that are sent to a serving office, for tools/bin/office, with the answers and the status of a run."""
 from __future__ import annotations
 
+import io
 import json
 import sys
 import time
 from collections.abc import Callable, Iterable
 from dataclasses import dataclass
-from typing import Any
+from typing import Any, cast
 
 from wb_tools.office.lines import Line
-from wb_tools.office.settings import FAILED, NOT_RUNNING, Refusal, tell
+from wb_tools.office.settings import NOT_RUNNING, Refusal, tell
 from wb_tools.wanna_build.office import NoAnswer, NotSent, Office
 
 PAUSE = 0.3  # seconds between two tries
@@ -18,10 +19,12 @@ ENDS = {"Store", "Closed"}  # refusals after which a run stops
 
 
 def write_answers(said: bytes) -> None:
-    """Writes what an office answered to standard output, and at once."""
+    """Writes what an office answered to standard output, at once and without a buffer: a signal in the middle would
+    have what is in one written a second time at the end."""
     sys.stdout.flush()
-    sys.stdout.buffer.write(said)
-    sys.stdout.buffer.flush()
+    raw, left = cast(io.BufferedWriter, sys.stdout.buffer).raw, memoryview(said)
+    while left:
+        left = left[raw.write(left) or 0 :]
 
 
 @dataclass
@@ -38,19 +41,23 @@ class Sender:
         status = 0
         for line in lines:
             try:
-                answer = self.fault(line) if line.fault else self.answer(line)
+                status = max(status, self.give(line))
             except (KeyboardInterrupt, SystemExit):
-                tell(f"it was ended: {line} is in doubt, and nothing after it was sent")
+                tell(f"it was ended at {line}, which is in doubt; nothing after it was sent")
                 raise
-            said = self.judged(line, answer)
-            try:
-                write_answers(answer + b"\n")
-            except OSError as error:
-                raise Refusal(f"the answer to {line} cannot be written: {error}; nothing after it was sent") from None
-            status = max(status, 1 if "refused" in said else FAULTS.get(said.get("fault", ""), 0))
-            if said.get("refused") in ENDS:
-                raise Refusal(f"the office closed at {line}: nothing after it was sent", FAILED)
         return status
+
+    def give(self, line: Line) -> int:
+        """Shows the answer to a line, and answers its status."""
+        answer = self.fault(line) if line.fault else self.answer(line)
+        said = self.judged(line, answer)
+        try:
+            write_answers(answer + b"\n")
+        except OSError as error:
+            raise Refusal(f"the answer to {line} cannot be written: {error}; nothing after it was sent") from None
+        if said.get("refused") in ENDS:
+            raise Refusal(f"the office closed at {line}: nothing after it was sent")
+        return 1 if "refused" in said else FAULTS.get(said.get("fault", ""), 0)
 
     def fault(self, line: Line) -> bytes:
         """The answer to a line that the program answers without asking the office."""
