@@ -47,6 +47,12 @@ fn read_next<R: BufRead + Drop>(
     }
 }
 
+// No clause of `BufRead` says when a reader fails, so `BoundedReader` has a flag, which its one
+// look at the reader sets. What is said of the bytes is said of those that were taken off the
+// reader's front, with whatever may be left after them: of a file or a pipe no clause says what a
+// look shows, so no clause compares the bytes that were taken with the file. A reader at its end is
+// not asked again: a file that grows would give a last line a second half after it was answered.
+// std's `read_until` asks again after an interruption, and holds a line of any length.
 /// A reader of the paragraphs of control data that another reader gives, in their order (Debian Policy 5.1). It holds one
 /// paragraph at a time, reads at most 2147483648 bytes, and ends at the first refusal. A reader that showed no byte is at its end
 /// and is not asked again, so a file that grows later ends where it ended.

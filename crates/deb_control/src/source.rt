@@ -98,6 +98,8 @@ fn append(text: &mut Vec<u8>, more: &[u8]) -> Result<(), AllocError>
     text.extend_from_slice(more)
 }
 
+// That the answer is `Failed` only if the look failed is read here, and not proved. Memory may run
+// out wherever a byte is left, since each byte that may belong to a paragraph is kept.
 /// Appends to a text what the reader shows, up to and including the first line feed and at most so many bytes. The error is
 /// that there is no memory for it; nothing was taken then. An interrupted read is a failed one too.
 fn append_shown<R: BufRead>(

@@ -130,6 +130,9 @@ is_group_or_blank piece = is_blank_text piece || is_some (read_group piece)
 unfoldable pub groups_fault : List ℕ → RelationFault
 groups_fault text = first_fault is_group_or_blank group_fault (length text) (slice_split is_comma text)
 
+-- A text without a reading has one fault, the first that a reader meets from the left, and not any of its faults: so a
+-- command's refusal is a function of the command and the state.
+
 -- the reading of a text: `TooLong` above the limit, else its groups, else its first fault (Policy 7.1, the limit this project's own)
 unfoldable pub reading_of : List ℕ → Result (List (List Alternative)) RelationFault
 reading_of text = if nat_lt relations_limit (length text) then Err TooLong else ok_or (read_groups text) (groups_fault text)

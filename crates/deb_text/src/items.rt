@@ -4,6 +4,8 @@ ghost use Rattle.std.specs.Prelude.{◌≡◌, [], ◌∷◌, ◌++◌, OnOk, On
 use std::alloc::{AllocError, Global};
 use std::marker::Model;
 
+// As for `Text`: the value of a `Vec` also has its capacity, so two lists of equal items would
+// differ.
 /// The items of a list, in their order. Clauses see it as the list.
 /// Source: this project's own.
 #[derive(Debug, Drop)]

@@ -13,6 +13,8 @@ use std::cmp::Ordering;
 use std::fmt;
 use std::marker::Model;
 
+// Not a `String`: the value of one also has its capacity, of which no clause of the office should
+// speak. So two texts are equal if their bytes are.
 /// A name or a word that is kept. Clauses see it as the list of its bytes, and texts are in the order of their bytes.
 /// Source: this project's own.
 #[derive(Debug, Drop)]

@@ -39,6 +39,8 @@ pub(crate) fn refuse(which: ListKind, bad: ListFault) -> Refusal
     }
 }
 
+// `next_binary` differs in the type of the row alone. A function over any type of row was not
+// proved to give the first fault.
 /// The row of the next paragraph of a Sources list, after so many paragraphs.
 pub(crate) fn next_source(
     alloc: Global,

@@ -2,6 +2,10 @@
 pub use Rattle.deb_relations.specs.Grammar.{relations_limit}
 use Rattle.std.specs.Prelude.{ℕ, ℤ, pos, neg_ℤ, int_le, Bool, ◌&&◌}
 
+-- Each limit stands here as its number, and as a constant in the code. The prover compares the two wherever a clause
+-- tests the limit, so a constant that changes alone is refused. That the number is the documented one is read.
+-- Definitions that took the constants would change with them, and nothing would be refused.
+
 -- the greatest count
 abbrev pub count_limit : ℕ
 count_limit = 1000000000000

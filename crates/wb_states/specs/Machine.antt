@@ -21,6 +21,10 @@ use Rattle.wb_states.specs.Record.{IsWellFormed}
 abbrev pub Key : Type 0
 Key = List ℕ × List ℕ
 
+-- Finite maps and sets, and not lists of rows, whose order and repetitions every statement would have to exclude. The
+-- rows of tables are the entries of these maps, and so is the part of the state that a command is carried out on in
+-- memory.
+
 -- the state of the office: records by architecture and source package, the words of architectures, who builds for which, and two counts
 pub record Machine : Type 0 where
   pub records : map.FinMap pair_cmp Record
@@ -38,6 +42,9 @@ empty_office = record {
   handed = 0;
   accepted = 0;
 }
+
+-- A filter over the names of the architectures: so the answer is in their order, and has only architectures that were
+-- added. A second map, from builder to architectures, would have to be kept in step with the set.
 
 -- the architectures for which a builder was added, by name
 abbrev pub archs_of : Machine → List ℕ → List (List ℕ)

@@ -1,4 +1,11 @@
 //! What operators and builders ask of the office: one struct per command, with texts as they came.
+
+// What a command is stands in three tables: `subject_of` says which records it names,
+// `arguments_of` of `wb_step` what it brings besides, and `move_of` there which move it makes. The
+// checks, the state after a command, its reply and what it looks at are definitions over these. No
+// table has a last line for all other commands, so a command that is forgotten is an error. Reports
+// of holders that bring a take number alone share one struct, and so do `fail` and `not-for-us`.
+
 ghost use Rattle.std.specs.Prelude.{◌≡◌};
 ghost use Rattle.wb_states.specs.Commands.{name_of_command};
 

@@ -8,6 +8,11 @@ use deb_relations::{ArchWords, RELATIONS_LIMIT, RelationFault, Relations};
 use deb_text::Text;
 use std::alloc::{AllocError, Global};
 
+// A move takes relations, words and a number that were read: texts are read, and their faults
+// found, before a record is moved. So a move refuses only what it needs the record to know: the
+// state, waits of which nothing is left for the architecture (reduced, they print as no text), and
+// a number that is not above the record's. `next` and `take` are one move, since they differ in how
+// the record is found.
 /// A move of a record, with what it brings. The names are those of the commands that ask for it.
 #[derive(Debug, Drop)]
 pub enum Move {

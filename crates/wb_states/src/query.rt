@@ -6,6 +6,9 @@ use crate::names::{is_arch, is_builder, is_source};
 use crate::{KeyedRecord, State, StateCounts};
 use deb_text::{Items, Text};
 
+// A query is a value, as a command is: what is answered is a definition over the state
+// (`answer_of`), and an office has one call for all queries. So a new query is an arm in a few
+// tables, and no method of the office with clauses of its own.
 /// What is asked of the office and changes nothing. Its texts are taken as they came: the office tests their forms (this
 /// project's own).
 #[derive(Debug, Drop)]

@@ -97,6 +97,11 @@ impl<'a> PartialOrd for QueueKey<'a> {
     }
 }
 
+// For each step of build priority there are 2 * 6 * 29 = 348 places: built earlier or not, the
+// priorities, the sections. `laws::ranks_order_the_queue` says that the order of the queue is that
+// of the ranks and then of the names. So the index `record_order` of the tables has the queue, if
+// each row has the rank of its record. It stands here, since the proofs of the tables would else
+// have to speak of SQL and of the queue's order at once.
 /// The number by which a table orders the records that wait on an architecture, those of one number by the
 /// bytes of their names, which is the order of [`QueueKey`]: the least is built first. For a record in its
 /// form it lies between 0 and 696347. Takes no memory (this project's own).

@@ -27,6 +27,8 @@ pub struct Record {
     pub holder: Option<Text>,
     /// The take number under which it is held, a fencing token: at least 1, and each is given once.
     pub take: Option<u64>,
+    // Kept as text: a merge reads them again, and what is printed reads back as the same. Waits
+    // that could not be read would count as not met.
     /// The relations that it waits for, reduced for the architecture and printed.
     pub waits: Text,
     /// What it needs to be built, reduced and printed, or none if that could not be read.

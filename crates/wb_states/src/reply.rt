@@ -2,6 +2,9 @@
 use crate::Refusal;
 use deb_text::{Items, Text};
 
+// An accepted `next` or `take` is a hand-out, and what the builder gets by it is an assignment,
+// which other commands can answer too. A retry repeats the assignment, and is no hand-out. `Job` is
+// the name of the reply's variant alone.
 /// What a builder is handed: one source package on one architecture, which it holds until the hold ends.
 #[derive(Debug, Drop)]
 pub struct Assignment {

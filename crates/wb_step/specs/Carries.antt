@@ -9,6 +9,10 @@ use Rattle.wb_states.specs.Refusals.{IsOfMachine}
 use Rattle.wb_step.specs.Checks.{MayWantMemory}
 use Rattle.wb_step.specs.Step.{Outcome, step}
 
+-- What a command's function promises is one record, `Carries`, and what a part of a step promises is `HasOutcome`,
+-- without memory. `built`, `uploaded` and `put-back` are one function and a move each. `fail` and `not-for-us` are two
+-- functions: one with a value that says which it is would need a definition that makes the command from that value.
+
 -- a part of a command comes to an outcome, or memory runs out and nothing changes
 pub record HasOutcome (old new : Machine) (outcome : Outcome) (result : Result Reply Refusal) : Type 0 where
   -- what is accepted has the reply of the outcome, and leaves its state

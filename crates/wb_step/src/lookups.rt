@@ -40,6 +40,7 @@ impl OfficePart {
         Ok(false)
     }
 
+    // A command about one architecture asks for this pair, and needs no list of architectures.
     /// Whether the builder was added for the architecture. The only error is that memory ran out for the
     /// pair by which it is sought (this project's own).
     pub fn has_builder(&self, builder: &Text, arch: &Text) -> Result<bool, AllocError>

@@ -8,6 +8,10 @@ use std::collections::{BTreeMap, BTreeSet};
 use std::marker::Model;
 use wb_states::{Counts, OsCpu, Record};
 
+// Only calls that make it larger, make a list or need a key of two texts can run out of memory, and
+// they answer an `AllocError`; all others answer the plain value. A look-up lends the record, and
+// only a command that changes it makes another one. No call gives the refusals `Closed` and
+// `Store`. The map of pairs has no look-up that takes no memory.
 /// The part of the office that a command names, in memory: records, by architecture and source
 /// package, the words of architectures, pairs of a builder and an architecture for which it builds,
 /// and the two counts. A call that makes it larger can answer that memory ran out. Clauses see it as

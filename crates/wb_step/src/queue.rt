@@ -11,6 +11,8 @@ use deb_text::Text;
 use wb_states::{QueueKey, Record, State};
 
 impl OfficePart {
+    // It goes through the records, as `by_take` does: a part has few of them. An index over maps
+    // would be one more invariant to prove; the tables have indexes for both.
     /// The head of the architecture's queue, which is built next, with its key, or none if no source package
     /// of the architecture waits for a builder. Takes no memory (wanna-build's states page).
     pub fn head(&self, arch: &Text) -> Option<(&(Text, Text), &Record)>

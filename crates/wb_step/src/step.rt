@@ -8,6 +8,12 @@ use crate::{OfficePart, builder, holder, named, operator, priority};
 use std::alloc::Global;
 use wb_states::{Command, Move, Refusal, Reply};
 
+// A command in memory has no transaction: it makes its copies first and writes last, and the writes
+// that can fail come before those that cannot. "Whole or not at all" rests on that; that of the
+// office rests on one transaction for each command.
+// No merge and no report: these may change many records, so an office carries them out over its
+// tables, one paragraph or one record at a time. `step` says what they do, and each law speaks of
+// them.
 /// Carries out one command on a part of an office in memory, whole or not at all, and answers it. The command is neither a
 /// merge nor a report. The part has what the command names, and need not be consistent.
 ///
@@ -23,6 +29,8 @@ pub fn carry_out(
     ensures carries { Carries office.old office.new command.now result }
     ensures utf8 { OnOk result (HasUtf8Texts command.now) }
 {
+    // One arm for each command, which makes the function long. In groups, each would need an arm
+    // for the commands of the others.
     match command {
         Command::AddArch(command) => operator::add_arch(office, command),
         Command::AddBuilder(command) => operator::add_builder(office, command),

@@ -25,6 +25,11 @@ use std::alloc::Global;
 use wb_merge::ReportLines;
 use wb_states::{Command, Refusal, command, is_arch};
 
+// An office that is not closed calls this first. So a command whose texts are refused asks no
+// table, and is never answered `Store`, and a merge with a malformed name reads no records; what is
+// known before memory may run out holds of every office. The step tests the texts again, which
+// takes a few tests of names and reads a version or relations a second time: a step without these
+// tests would have them as a premise, and its laws would hold of fewer commands.
 /// Tests the texts of a command: names, version, relations, number, the lengths of free texts, and the lines of a report,
 /// which it hands on, so that a report is read once. Nothing of the office plays a part. The refusal is the first that is
 /// true of the texts, in the order of [`Refusal`]; `Memory` comes if there is no memory to read the version, the relations
