@@ -41,6 +41,7 @@ fn phrase_of(status: StatusCode) -> &'static str
     }
 }
 
+// Eight texts, written one after another, so that an answer takes no memory.
 /// Writes an answer with this code, phrase, length and body.
 #[tactic(auto, unfolding(crate::specs::Answers::parts_bytes))]
 fn write_parts<'a, W: Write + Drop>(

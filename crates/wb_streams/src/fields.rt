@@ -72,6 +72,8 @@ fn without_zeros(digits: &[u8]) -> &[u8]
     rest
 }
 
+// Numbers of any size are compared, by their digits without the zeros before them. So two lengths
+// that differ are malformed before one of them is too large.
 #[tactic(auto, unfolding(crate::specs::Fields::is_same_number))]
 fn is_same_number(one: &[u8], other: &[u8]) -> bool
     ensures value { result ≡ is_same_number one.now other.now }

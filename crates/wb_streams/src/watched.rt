@@ -11,6 +11,10 @@ ghost use Rattle.wb_streams.specs.Streams.{Stream};
 use std::io::{self, ErrorKind, Read, Write};
 use std::marker::Model;
 
+// No clause of Rust's readers and writers says when they fail. So what stops for a failed read or
+// write has to find its flag set, and all else has to leave it as it was: a failed read is never
+// taken for the end of an input either. A premise on when a reader may fail could not be met for a
+// terminal.
 /// A reader that reports whether a read of it failed.
 #[derive(Drop)]
 pub struct WatchedReader<R: Read + Drop> {

@@ -11,6 +11,8 @@ use crate::WatchedWriter;
 use std::alloc::{AllocError, Global};
 use std::io::Write;
 
+// Not `write_all`, which tries an interrupted write again and does not say how much was written. So
+// what was written is always a front of the answers.
 /// Writes the bytes. Says whether all were written: a write that takes no byte or fails ends it, also one
 /// that was interrupted, and then a front of the bytes was written.
 pub(crate) fn write_bytes<W: Write + Drop>(writer: &mut WatchedWriter<W>, bytes: &[u8]) -> bool
