@@ -14,6 +14,8 @@ use sqlite::Row;
 use std::alloc::AllocError;
 use wb_states::{KeyedRecord, OsCpu, State, rank};
 
+// A row of the first schema has a reader of its own. A query that adds this number and a build
+// priority to each row would spare it, but of a sum in a SELECT nothing is proved here.
 /// What the rank of a record is greater by than its rank by the first schema, where its build priority is 0.
 const RANK_STEP: u64 = 348000;
 

@@ -1,5 +1,9 @@
 //! Statements on the rows of one table, in a transaction. Each fails as `execute` does.
 
+// What a statement does is said of each table whose statement the text is, and what a crash leaves
+// is said unless the text is another. So no call requires the schema to be known, which it is only
+// if the disk is clean: no second call in a transaction could meet that.
+
 ghost use Rattle.std.specs.Prelude.{◌≡◌, OnOk};
 ghost use Rattle.sqlite.specs.Held.{state};
 ghost use Rattle.sqlite.specs.State.{HasCleanDisk};

@@ -45,6 +45,9 @@ pub(crate) fn record_order() -> &'static str
     "CREATE INDEX record_order ON source_record(arch, state, rank, source)"
 }
 
+// Not UNIQUE: the kit's `sqlite` tests the NULLs of such a column one by one, which made 35,000
+// records without a take number take 100 s to insert and 98 s to open, and 0.4 s and 0.2 s without.
+// That take numbers are distinct is the office's invariant.
 /// The index of records by take number.
 pub(crate) fn record_take() -> &'static str
     ensures { IndexesAmong source_record record_take result.now }
@@ -61,6 +64,8 @@ pub(crate) fn scratch_source() -> &'static str
      depends TEXT NOT NULL, depends_arch TEXT NOT NULL) STRICT"
 }
 
+// Without an index a look-up by name visits every row: 2.5 ms of 35,000 rows, and 1.5 microseconds
+// with it.
 /// The index of the source packages of a merge by name.
 pub(crate) fn source_name() -> &'static str
     ensures { IndexesAmong scratch_source source_name result.now }

@@ -1,5 +1,10 @@
 //! The tables of the first schema, which a store of format 1 has: how they are recognized, and the statements on them.
 //! None of these tables is made by this program.
+
+// The two texts that made the table of the records and its index stand here, so that it can be
+// proved that they make what is known as that table. `has_states` compares it column by column, as
+// the tables of an office are compared.
+
 ghost use Rattle.std.specs.Prelude.{◌≡◌, ◌↔◌, IsTrue, []};
 ghost use Rattle.wb_sql.specs.Among.{AsksAmong, DeletesAmong, HasIndexed, HasStates, UpdatesAmong, table_at};
 ghost use Rattle.wb_sql.specs.FirstSchema.{HasFirstTables, all_states, first_state, second_format};

@@ -1,5 +1,9 @@
 //! The savepoint of a transaction, which is named `part`. Of several the newest counts.
 
+// Three texts that name no table, so their meaning is that of any schema. Nothing has to be known
+// of savepoints that a connection may have already. The kit's own type of a savepoint borrows the
+// connection, which `Writing` of `wb_store` holds by a reference.
+
 ghost use Rattle.std.specs.Prelude.{◌≡◌, false, [], IsTrue, IfErr, OnOk};
 ghost use Rattle.sqlite.specs.State.{HasCleanDisk, Survives, Executes, CommitsBy};
 ghost use Rattle.sqlite.specs.Held.{state};

@@ -9,6 +9,9 @@ ghost use Rattle.wb_sql.specs.OfficeStatements.{record_of_take, held_by, records
 ghost use Rattle.wb_sql.specs.OfficeStatements.{arch_row, arch_of_name, all_archs, office_sets, office_counts, office_row};
 ghost use Rattle.wb_sql.specs.OfficeStatements.{builder_row, pair_of_builder, pairs_of_builder, all_builders, first_source, first_binary};
 
+// For a merge and an entry. REPLACE would move the row to the end of the table and write all its
+// trees anew: over 35,000 records a hand-out costs a sixth less so, and a report of a build a
+// third.
 /// Puts a record in, or writes it over the one with its key. The parameters are its 16 columns.
 pub fn put_record() -> &'static str
     ensures { UpsertsRecords result.now }
@@ -21,6 +24,9 @@ pub fn put_record() -> &'static str
      build_priority = ?15, rank = ?16"
 }
 
+// For every other command, of which it is proved that its record is there. It costs a fifth fewer
+// instructions than `put_record`. To set only the columns that a command changes saves 2 % more,
+// and takes a text for each kind of command.
 /// Writes a record over the one with its key, which is there. The parameters are its 16 columns.
 pub fn replace_record() -> &'static str
     ensures { UpdatesAmong source_record result.now has_record_key record_sets 16 }
@@ -73,6 +79,8 @@ pub fn record_of_take() -> &'static str
      FROM source_record WHERE take = ?1"
 }
 
+// No index has the holders: each command of a builder would be dearer by it. So this goes through
+// all records.
 /// The records that a builder holds, by architecture and then by source package.
 pub fn held_by() -> &'static str
     ensures { AsksAmong source_record result.now held_by 1 }
@@ -91,6 +99,7 @@ pub fn records_of_arch() -> &'static str
      FROM source_record WHERE arch = ?1 ORDER BY source"
 }
 
+// As `queue`, a range of the index `record_order`, so a list costs what it answers.
 /// The records of an architecture in a state, by source package.
 pub fn records_in_state() -> &'static str
     ensures { AsksAmong source_record result.now records_in_state 2 }
@@ -100,6 +109,8 @@ pub fn records_in_state() -> &'static str
      FROM source_record WHERE arch = ?1 AND state = ?2 ORDER BY source"
 }
 
+// One look-up, whose answer is counted, for `summary`: ten statements with COUNT would be ten
+// questions, and each command would have to keep a table of counts in step.
 /// The state of each record of an architecture, in no order. The index `record_order` has both columns, so no record is
 /// read.
 pub fn states_of_arch() -> &'static str

@@ -38,6 +38,7 @@ pub fn begin<S: Alter>(conn: &mut Connection<S>)
     let _forgotten = ManuallyDrop::new(conn.transaction());
 }
 
+// A flag of the office's own would not do, since nothing would hold it to the connection.
 /// Whether the connection can still be used: the empty text runs if its store is open and memory suffices. Nothing
 /// is written. A transaction may be taken back only if the connection cannot be used.
 pub fn is_usable<S: Alter>(conn: &mut Connection<S>) -> bool
@@ -89,6 +90,8 @@ pub(crate) fn run<S: Alter>(
     Ok(())
 }
 
+// ROLLBACK and COMMIT are run as texts, since a struct around the kit's `Transaction` is not
+// covered by the borrow checker.
 /// Ends the transaction, and takes back what it wrote.
 pub fn roll_back<S: Alter>(conn: &mut Connection<S>) -> Result<(), Error>
     ensures ok { HasCleanDisk (state S.Store conn.new)
@@ -103,6 +106,9 @@ pub fn roll_back<S: Alter>(conn: &mut Connection<S>) -> Result<(), Error>
     Ok(())
 }
 
+// After a COMMIT that ran out of memory the connection is asked: only if it can be used was nothing
+// committed. The kit's store may answer that memory ran out together with a store that is shut, of
+// which nobody knows whether it committed.
 /// Ends the transaction, and makes what it wrote permanent. [`CommitError`] says what holds if it fails.
 pub fn commit<S: Alter>(conn: &mut Connection<S>) -> Result<(), CommitError>
     ensures ok { HasCleanDisk (state S.Store conn.new)

@@ -16,6 +16,7 @@ use crate::first_schema::has_first_tables;
 use sqlite::{Alter, Connection, Error};
 use sqlite_schema::schema::Schema;
 
+// No name of the index of a key is looked at, since SQLite gives it to no other index.
 /// Whether [`make_second_tables`] can make the tables and indexes of the second schema in the schema: it has the tables of
 /// the first, as [`crate::has_first_tables`] says; no table, index or view has a name of what is made, where ASCII letters of
 /// either case are the same; no table of others refers to a table of either schema, and no foreign key that refers to one
@@ -31,6 +32,10 @@ pub fn has_first_office_tables(schema: &Schema) -> bool
         && has_sequence(schema)
 }
 
+// The old table of records stays, without a row, and its rows are those of others for every
+// command: the statements that are proved cannot drop a table. It refers to `arch`, so the tables
+// of the office are those of both schemas in `are_unreferred` and `are_quiet`. The indexes of the
+// scratch tables are made now, since an opening compares all of them.
 /// Makes the table of records of the second schema, its indexes, and those of the scratch tables, in a database of the
 /// first schema, as [`has_first_office_tables`] says; the schema has an office's tables then, as
 /// [`crate::has_office_tables`] says. The new table has no row, and all other tables keep theirs. It fails as `execute` does,
