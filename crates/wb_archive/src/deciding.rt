@@ -191,6 +191,8 @@ fn decide_one<T: MergeTables>(
     keep_record(tables, &arch.name, name, old.as_ref(), new)
 }
 
+// `wb_merge` says what the record of one source package becomes; here the names in the tables are
+// gone through. `step` says the same of whole lists, which no program holds in memory.
 /// Brings the records of the architecture in line with what the tables have of the archive's lists, source package by source
 /// package, each from its own rows, and counts what it did: a record is written if it is new or a field of it differs, and
 /// taken out if its source package is not listed. All else stays (this project's own).

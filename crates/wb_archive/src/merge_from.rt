@@ -64,8 +64,17 @@ pub fn check_archs<R: Drop>(lists: &[ArchList<R>]) -> Result<(), Refusal>
     Ok(())
 }
 
+// A trait beside `CarryOut`, so that an office that is asked over HTTP alone needs no readers, and
+// `wb_step` none of this crate. Lists have no place in a `Command`, which would have the type of
+// its readers, and so would all that speaks of commands. Bytes that are known before they are read
+// are the list; of others there are some that are (`IsMergeOf`).
 /// An office that merges an archive's lists as readers give them, so that none of them is held in memory.
 pub trait MergeFrom: CarryOut {
+    // A refusal with `Read` asks for a feed of the list that it names whose flag is set, or that
+    // read as much as it may while more follows (`IsFeedBreak`). The readers are not handed back,
+    // so nobody gets that feed: that no body makes one up is found by tests
+    // (`tools/tests/test_merges.py`). What is left is as of a command with a list that is no field
+    // (`unread_list`), so runs are replays of commands.
     /// Merges a Sources list and a Packages list of each of some architectures, whole or not at all, and answers as
     /// [`carry_out`](CarryOut::carry_out) answers a merge of the bytes that the readers give.
     ///

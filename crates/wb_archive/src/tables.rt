@@ -9,6 +9,9 @@ use deb_text::Text;
 use deb_version::Version;
 use wb_states::{BinaryRow, KeyedRecord, Record, SourceRow};
 
+// The functions of a merge say by one record (`Advances`) what they follow and how they fail, since
+// memory may run out between two calls. These calls fail with the tables' own fault, of which out
+// of memory is one, so each says both by itself.
 /// The tables in which a merge runs, within a transaction that its caller began: the state of the office, and what is kept
 /// of the archive's lists. Each clause speaks of what stands in the tables before a call and says what stands in them after it
 /// (this project's own).
