@@ -19,6 +19,10 @@ cells = drop 1
 abbrev pub cells_of : List Row → List Row
 cells_of = map cells
 
+-- REPLACE and DELETE of the kit's `sqlite` find rows by their rowids, and no clause of a connection says that those of
+-- a file rise. Every change keeps that they do, and tables without a row have it: so it is held from the making of the
+-- tables on, and of a file that another program wrote nothing is claimed.
+
 -- the rowids are whole numbers that rise, so none comes twice
 pub record IsStored (rows : List Row) : Type 0 where
   pub whole : have_rowids rows ≡ true

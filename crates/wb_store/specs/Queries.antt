@@ -167,6 +167,12 @@ given_to OneState = []
 abbrev pub IsForOne : OfficeQuery → Type 0
 IsForOne query = (query ≡ OneSource) ⊎ ((query ≡ OneBinary) ⊎ (query ≡ OneState))
 
+-- A look-up names its query, with the parameters, and a write the write (`IsTextOfWrite`): where one fails, the text
+-- that failed is this one statement, with as many parameters as are given. Which queries a command runs is not named:
+-- every look-up and loop would carry the list, and it would refuse no body but one that asks more than it needs. The
+-- states between have the limit of steps that the connection has, so no query is said to be interrupted where there is
+-- no limit.
+
 -- over each schema that has the table, the text asks this, and has as many parameters as are given
 abbrev pub IsTextOfQuery : OfficeQuery → List ℕ → Type 0
 IsTextOfQuery query sql = AsksAmong (table_of (table_asked query)) sql (query_asked query) (length (given_to query))

@@ -44,6 +44,9 @@ record_rows = record_rows_in Two
 abbrev pub arch_rows : Machine → List Row
 arch_rows machine = map arch_cells (finite.entries machine.archs)
 
+-- Of the list of a finite set the standard library says which members it has, and not that each comes once; of the keys
+-- of a finite map it says both.
+
 -- the pairs of a builder and an architecture for which it was added, each once, in their order
 abbrev pub builder_pairs : Machine → List Key
 builder_pairs machine = finite.keys (finite.from_entries {R = pair_cmp} (map (λ pair. (pair, tt {0})) (set.items machine.builders)))
@@ -71,6 +74,10 @@ HasRecordsOf format machine db = HoldsRows (record_rows_in format machine) (rows
 -- if the database has the table of the records of the first schema, which an upgraded office keeps, that has no row
 abbrev pub AreEmptied : Database → Type 0
 AreEmptied db = HasStates db.schema → rows_in db source_state ≡ []
+
+-- The rows of a merge are two lists, each in the order of the places in the lists of the archive, and empty while no
+-- merge runs: so what is said of a store then speaks of no merge. A place is the rowid of its row, so a table has its
+-- rows in the order of the places, and a look-up in that order is a filter of the list.
 
 -- the database has the office's tables with their indexes, beside those of others, and they hold the rows of this state and, of a merge, these rows in
 -- the order of their places, and no other row

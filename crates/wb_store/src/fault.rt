@@ -35,6 +35,9 @@ pub(crate) fn answer_on<T: Drop>(answered: Result<T, Error>, table: Table) -> Re
     }
 }
 
+// Only an opening counts rows; a look-up that meets a row of no office, and a number above its
+// limit that is to be written, have row 0. A clause says that no database which stands for a
+// consistent state gives such a row.
 /// The fault of a table if what is read of it, or is to be written to it, is not what an office keeps: `Damaged`, with
 /// row 0, since no row of it is blamed. Takes no memory (this project's own).
 pub fn unfit(table: Table) -> StoreFault

@@ -3,6 +3,13 @@
 //! The faults of each look-up are those of its query, on the table that it asks, `Memory` if memory runs out for the
 //! answer, and `Damaged` with row 0 if a row is not one of an office. The database stays as it is; only a failed query
 //! may take a transaction back (this project's own).
+
+// For a caller that reads in its transaction. These calls, and `rows` of `Writing`, are one call of
+// the look-up of `Store` with the same name each, under the same clause. No program makes them,
+// since a merge goes by `MergeTables`: they are read, and not tried. Of those of `Store` tests run
+// all but `all_of`, with the office. Look-ups take the store and no transaction, since a command
+// knows all that it changes before it changes anything.
+
 ghost use Rattle.std.specs.Prelude.{◌≡◌, map as each};
 ghost use Rattle.std.specs.FinMap as map;
 ghost use Rattle.std.specs.Option.{option_map};

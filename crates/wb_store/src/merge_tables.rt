@@ -74,6 +74,11 @@ fn versions_of(rows: Vec<BinaryRow>) -> Result<Vec<Version>, AllocError>
     Ok(versions)
 }
 
+// The prover follows a `&mut` only if it is a field of the struct that a function returns. A struct
+// of a merge's own around a `&mut Writing` would be a second, of which nothing could be said after
+// the call. So `Writing` itself is the tables of a merge, with two fields that other commands do
+// not use. Here a merge needs only that each name comes once, and adds each row after all others;
+// the functions below say more.
 impl<S: Alter + Drop> MergeTables for Writing<'_, S> {
     type Fault = StoreFault;
 
@@ -160,6 +165,11 @@ impl<S: Alter + Drop> MergeTables for Writing<'_, S> {
         Writing::remove(self, arch, source)
     }
 
+    // The calls require nothing of the calls before them. `Writing::save` and `Writing::release`
+    // note whether the savepoint is set, also by a caller of the transaction, and without one
+    // nothing is run: SQL would answer that there is none, or go back to one of that name that
+    // somebody else set, and take back what the merge did not write. `requires` that there is one
+    // could not be shown by a merge whose disk is not clean.
     // A savepoint that was set stays where it is.
     fn save(&mut self) -> Result<(), StoreFault> {
         if self.is_saved {

@@ -82,6 +82,10 @@ pub(crate) fn empty_binaries<S: Alter>(conn: &mut Connection<S>) -> Result<(), S
     answer_on(answered, Table::ScratchBinary)
 }
 
+// One DELETE has all rows of its table in memory, 27 MB for 63,440. That no row is left follows
+// from the last one alone; of the pieces it has to be known only that they change nothing else.
+// DROP and CREATE of the tables would change the schema within each part, and each clause that says
+// that the schema is as before.
 /// How many places the statement that removes rows goes on at a time, so that few rows are in memory at once.
 const PLACES: u64 = 1000;
 

@@ -167,6 +167,7 @@ pub(crate) fn current_in(records: Vec<KeyedRecord>) -> Option<Record>
     Some(first_in(records)?.current)
 }
 
+// No record has a take number as great as that, since counts end at 10^12.
 /// A number as SQL keeps it. A number that is too great for that is the greatest, 2^63 - 1.
 pub(crate) fn stored_number(number: u64) -> i64
     ensures { result ≡ pos (min number (2 ^ 63 - 1)) }

@@ -20,6 +20,8 @@ use wb_sql::{first_schema, scratch, statements};
 use wb_states::{StoreFault, Table};
 
 impl<S: Alter + Drop> Store<S> {
+    // The columns as the table has them, with the id of the office's row and the places of a
+    // merge's rows, so that a row can be compared with what `sqlite3` prints.
     /// Each row of the office's tables, once: those of `office`, `arch`, `builder`, `source_record`, `scratch_source` and
     /// `scratch_binary`, in this order, and of a table by its key. A row has the columns of its table, in their order. The
     /// faults are those of the queries, each on its table, `Memory` if memory runs out for the rows, and `Damaged` with

@@ -33,6 +33,10 @@ use std::alloc::Global;
 use std::marker::Model;
 use wb_states::{Counts, StoreFault, Table};
 
+// No other crate sees the connection: an office uses this and `Writing`, and nothing above runs a
+// text of SQL. Clauses see both as the connection, so that what a look-up or a change promises is
+// said once, by `LooksUp` and `Changes`. They are two types, since a caller of one could begin a
+// transaction within another.
 /// The store of an office: a database that has the office's tables, perhaps beside those of others. Clauses see it as the
 /// connection of the database.
 #[derive(Drop)]

@@ -28,6 +28,10 @@ use wb_rows::first_record_of;
 use wb_sql::{begin, commit, delete, first_schema, make_second_tables, roll_back, update};
 use wb_states::{Counts, KeyedRecord, StoreFault, Table};
 
+// One transaction, so that a crash leaves the database before it or after it, and both stand for
+// the same state. All records are held in memory once, which no other call does: it happens once in
+// the life of a file. In several transactions a crash would leave an office in both schemas at
+// once.
 /// Tests an office of the first schema, as [`check_first`] does, brings it over into the second, in one transaction, and answers
 /// its two counts. The faults are those of the tests, those of the query for its records, and those of [`upgrade`]. Nothing is
 /// written before all tests passed; a crash leaves the office in the one schema or in the other. No transaction is under way

@@ -27,6 +27,9 @@ use wb_rows::{arch_values, builder_values, record_values};
 use wb_sql::{delete, insert, statements, update};
 use wb_states::{Counts, OsCpu, Record, StoreFault, Table};
 
+// It has no `Drop`, so the compiler refuses a path that ends neither by `commit` nor by
+// `roll_back`. A guard that rolls back when it is dropped would have an end that no clause of the
+// caller names.
 /// A transaction under way. It is ended by [`commit`](Writing::commit) or [`roll_back`](Writing::roll_back), and cannot be
 /// let go without one of the two. A failure of the store or of memory ends it too, and takes back what it wrote; after that
 /// its changes are refused (this project's own).
