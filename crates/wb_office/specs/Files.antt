@@ -146,6 +146,10 @@ pub record IsGivenUp {D : Type 0} (g : Ghosts D) (office : Office (FileStore D g
   pub given : AreClean g left.log left.db → HasCleanDisk (file_state ended)
   pub stands : AreClean g left.log left.db → (machine : Machine) → IsAt office machine → LeaveOnly g left (StandsForTrees machine)
 
+-- That a look-up failed says little by itself: over tables that are no office's each look-up fails. So this has the
+-- office that was opened over the files, which stands at a state that they hold, if they hold one of two; from that its
+-- tables are there (`HasOffice`). Of other files no clause says which tables a store has that was opened over them.
+
 -- an office was opened over the files, and given up since its rows were not shown; the files that were handed back keep its state
 pub record IsUnshown {D : Type 0} (g : Ghosts D) (files : Files D) (fault : StoreFault) (left : Files D) : Type 0 where
   pub office : Office (FileStore D g)

@@ -14,6 +14,9 @@ use wb_rows::TableRow;
 use wb_states::{Command, StoreFault};
 use wb_store::RefusedFiles;
 
+// A copy of all rows, as values that a caller can compare with what another program reads. It takes
+// as much memory as the tables, and no program that serves an office calls `lives`. An office
+// handed out at the end would say of one opening what is to be said of each.
 /// What the opening of a life finds, and what the life is answered.
 #[derive(Drop)]
 pub enum Found {

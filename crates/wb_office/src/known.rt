@@ -13,6 +13,11 @@ use std::alloc::{AllocError, Global};
 use wb_states::{Command, Counts, OsCpu, StoreFault};
 use wb_store::Store;
 
+// Each command needs these, and two statements a command are some 30 of 250 microseconds. No other
+// program changes them while the office is open. The counts are taken over once a command is
+// committed; the architectures are read by the first command after an opening and after `add-arch`,
+// and a merge changes none. That they are those of the state is part of what it means that an
+// office stands at it (`Knows`). The records too would take the memory of the whole office.
 /// What an office knows of its tables.
 #[derive(Drop)]
 pub(crate) struct Known {

@@ -43,6 +43,10 @@ struct Ended<D: Disk + Drop> {
     given: Result<Files<D>, RefusedFiles<D>>,
 }
 
+// Room for the answers is taken first, so that no accepted command is lost because memory ran out.
+// `sqlite` refuses to close a connection after a fault of the disk, so an office that a fault
+// closed is given up: its files are those of the last commit or, in doubt, of one of two. To give
+// up each office would leave the log to the next opening.
 /// Opens the office that the files hold, has it carry out the commands, one after another, and closes it; one that a fault
 /// closed is given up as it is. Each command has an answer: after one at which the store failed each is `Closed`. The room
 /// for the answers is taken before the files are opened. The faults are those of [`Office::open`], and `Memory` if there is

@@ -44,6 +44,7 @@ fn is_any_merged(replies: &[PartReply]) -> bool
         .any(|reply| matches!(reply.end, PartEnd::Merged { .. }))
 }
 
+// Each part's end is made once, so no list is read a second time, and the refusal takes no memory.
 /// The replies to a merge if a part was merged, or else why the first was not.
 fn unless_refused(replies: Vec<PartReply>) -> Result<Vec<PartReply>, Refusal>
     ensures ok { IfOk result (λ told. (told.items ≡ replies.items) × (refusal_by replies.items ≡ None)) }

@@ -23,6 +23,8 @@ use wb_states::command::Merge;
 use wb_states::{Counts, OsCpu, PartReply, Refusal, Reply, StoreFault, Table};
 use wb_store::{Store, unfit};
 
+// A refusal says that the office stands as before and is open, so the store is asked first. The
+// refusal all the same would leave the next command to find the store shut.
 /// How a merge that stopped failed, after the call that was to take its transaction back. A refused merge leaves the office as it
 /// was if its transaction was taken back and the store can still be used; otherwise it is a failure of the store.
 fn stopped<S: Alter + Drop>(

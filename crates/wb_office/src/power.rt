@@ -9,6 +9,11 @@ ghost use Rattle.wb_sql.specs.Settled.{AreSettled};
 use sqlite::Files;
 use sqlite_disk::{Crash, Disk};
 
+// A crash after a cut leaves no more than one before it, and not just one content: so disks in
+// memory that have no memory for a copy can be made to crash (`Crashes`). The next opening decides,
+// since a crash of its connection leaves what it found alone. Cuts are counted, so a body that cuts
+// no power is refused; a list of the contents at each cut would take copies. `back` cannot fail: a
+// power that makes its cut in memory takes the memory before.
 /// What cuts the power, so many times, and hands back the files as they are once it is back (this project's own).
 pub trait Power<D: Disk> {
     // How many times it can still cut the power.

@@ -103,5 +103,8 @@ pub trait CarryOut {
             → result ≡ Err (Store fault) → leaves self.new machine machine fault };
 
     // A state at which an office stands is consistent.
+    // An opening finds it out by the rows that it tests, and each command keeps it. So the calls
+    // need no premise for what must never break, which every caller would have to carry along, and
+    // conditions of the tables can be met by their callers.
     ghost consistent: { (office : Self) (machine : Machine) → stands_at office machine → IsConsistent machine };
 }
