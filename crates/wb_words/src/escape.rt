@@ -38,6 +38,10 @@ fn end_in_negative(words: &[&str]) -> bool
     }
 }
 
+// Each line that is read so is one that `clap` refuses as it stands, so no line that was accepted
+// means anything else; examples and `tools/tests/test_words.py` show it, and no law says it of all
+// lines. With `allow_negative_numbers` `clap` no longer states which word goes to which argument,
+// on which `invocation_of` and `start_of` rest.
 /// Whether the subcommand of the words is `build-priority`, the last word is a negative number, and no word is `--`.
 /// `clap` would take that word for an option.
 #[tactic(auto, unfolding(crate::specs::Escapes::has_negative_value))]

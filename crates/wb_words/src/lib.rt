@@ -1,5 +1,9 @@
 //! The words of a line read with `clap`: the subcommands of the office with their arguments, and
 //! what a line asks for.
+
+// A crate of its own: its check takes much memory and time and grows with every subcommand, and no
+// other code should be checked again for it.
+
 #![tactic(auto)]
 
 mod argument;
