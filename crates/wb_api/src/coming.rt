@@ -59,6 +59,11 @@ fn body_coming(alloc: Global, routes: &Routes, bytes: &[u8], count: usize) -> Co
     }
 }
 
+// A head with a 33rd field that has not ended is both "head too large" and, if the input ends
+// there, "bad head"; with its rest it is the first alone. So an answer to it is due only when it
+// has ended, when nothing makes it a head, or when 8192 bytes came. `serve_one` may answer after
+// the 33rd field at once, since its contract allows either fault there. The contract of `httparse`
+// does not say that a head which is still being read has few fields.
 /// What has come of the request of a connection, by its first bytes. While more has to come, they
 /// are the front of a request, and no answer is due. Once they are whole, a request or a fault of
 /// one, what follows plays no part. A head with too many fields is whole once it has ended. A fault

@@ -1,5 +1,10 @@
 //! What the office answers, as JSON; and one exchange over HTTP (RFC 9112): a request is read, carried out by an office,
 //! and answered.
+
+// The texts of replies and refusals are used by the lines of a run and by HTTP, so they are a crate
+// apart from the run, which `wb_daemon` has. One exchange stands beside them, and the loop over
+// connections in `wb_serve`.
+
 #![tactic(auto)]
 
 mod answer;

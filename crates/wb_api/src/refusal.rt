@@ -19,6 +19,8 @@ use wb_states::{ListKind, ListingFault, Refusal, StoreFault};
 /// The text of the refusal `Memory`, which must not need any memory.
 const MEMORY: &str = r#"{"code":20,"refused":"Memory"}"#;
 
+// So the commonest answers take no memory, and that it ran out cannot replace them. `refusal_text`
+// is that of a text made of number and name for each.
 /// The text of a refusal that has no more than its number and its name, which is a constant.
 fn constant_text(refusal: &Refusal) -> Option<&'static str>
     ensures value { IfSome result (λ text. text.now ≡ refusal_text refusal.now) }

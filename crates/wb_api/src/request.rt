@@ -65,6 +65,8 @@ pub enum Received {
 fn command_wanted(kind: CommandKind, method: &str, fields: &[Header<'_>]) -> Result<Wanted, Fault>
     ensures value { result ≡ command_wanted kind method.now (map header_parts fields.now) }
 {
+    // Compared as texts: `Method::from_bytes` takes memory for an unknown method of more than 15
+    // bytes, so a request with a wrong method could be answered as out of memory.
     if method != Method::POST.as_str() {
         return Err(Fault::WrongMethod);
     }

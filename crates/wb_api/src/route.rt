@@ -136,6 +136,8 @@ impl Routes {
         }
     }
 
+    // `route_at` says in this project's own words what a target is for, and a law says that
+    // `matchit`'s definition, on the router of the table, finds the same for every target.
     /// What a target is for: `None` if it is none that is served. Takes no memory.
     pub(crate) fn at(&self, target: &str) -> Option<Route>
         ensures value { result ≡ route_at target.now }
@@ -147,6 +149,8 @@ impl Routes {
     }
 }
 
+// Cut at the slashes, and not taken of `matchit`'s `Params::get`, which states what it gives only
+// where each part is UTF-8: a caller would have to prove that of the router's walk.
 /// The part of a target after so many slashes, as it is written; it is empty if there are not so many.
 fn part_at(target: &str, count: usize) -> &str
     ensures value { result.now ≡ part_at target.now count }

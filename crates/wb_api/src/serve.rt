@@ -168,6 +168,9 @@ pub fn serve_one<O: CarryOut, R: Read + Drop, W: Write + Drop>(
     exchange(alloc, routes, office, reader, writer)
 }
 
+// An answer takes memory here alone, since it is kept until the client takes it. If there is none,
+// the client gets a front, as after a failed write. An answer that is written to the socket at once
+// would have all others wait.
 /// Serves one exchange over the bytes of a request that has come, as `serve_one` does over a reader:
 /// how it ended, and the bytes of the answer. If there is no memory for all of these, it ended with a
 /// failed write, and they are a front.
