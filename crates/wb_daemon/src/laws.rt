@@ -9,6 +9,9 @@ ghost use Rattle.wb_daemon.specs.Run.{Runs, StopsInLine};
 
 use crate::lists::Lists;
 
+// So each law over lists of commands is stated once, and not again over lines. That an office stays
+// consistent is a law of `CarryOut`, without a premise on texts, since each text of a program is
+// UTF-8.
 /// What a run leaves is what the commands that its lines ask for leave, one after another, also if it
 /// was cut off within or before the answer to a line. So what holds of every list of commands holds of
 /// every run.

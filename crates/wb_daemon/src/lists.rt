@@ -17,6 +17,12 @@ use wb_words::PartNames;
 /// The greatest length of a report.
 const LIST_LIMIT: usize = 2147483648;
 
+// `may_read` says of each name what its file may be read as, and whether it may fail to be opened
+// or, as a report, read: a merge is answered by a file fault only if one of its lists may fail. The
+// program's files say nothing of themselves, so any may fail; that `run_lines` makes no fault up
+// holds because it is proved for every `Lists`. A flag like that of a reader would speak of a whole
+// run and not of one list. `report` takes what no answer says: an observer beside the lists would
+// be one more parameter of eleven functions.
 /// Where the files are that a merge or a report names, and who gets what no answer says (this project's own).
 pub trait Lists {
     /// What reads the bytes of a file.

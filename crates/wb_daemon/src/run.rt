@@ -233,6 +233,10 @@ fn run_in_room<O: MergeFrom, R: Read + Drop, W: Write + Drop, L: Lists>(
     run_within(alloc, office, reader, writer, lists, &mut room)
 }
 
+// It stands on the traits of an office alone, whose clauses speak of a state at which an office
+// stands: so a run over tables in a file promises what a run over tables in memory does. What is
+// promised is said of each such state (`Reaches`, `Leads`), and not of one state of an office,
+// which tables that somebody else wrote to do not have.
 /// Acts on each line of the input in turn and answers it with one line of JSON. Answers the status of the run.
 ///
 /// A line ends at a line feed, which the last may lack; its words are separated by spaces and tabs, without
