@@ -12,6 +12,8 @@ use std::net::Shutdown;
 use std::time::Duration;
 use wb_api::Routes;
 
+// One deadline for all that a client sends and is sent. A limit on each read lets a client that
+// sends a byte in time keep its connection for days.
 /// How many seconds a client has for its request and its answer together.
 pub(crate) const LIMIT_SECONDS: u64 = 30;
 
@@ -267,6 +269,8 @@ impl Client {
         self.read(shared)
     }
 
+    // The whole length is taken before the body is read: if bytes were counted as they come, many
+    // half-read bodies would fill the room, and none of them would end.
     /// Takes the memory for a request of this many bytes, if there is room for it.
     fn reserve(&mut self, shared: &mut Shared<'_>, total: usize) -> bool {
         let held = if total <= SMALL { 0 } else { total };
@@ -303,6 +307,10 @@ impl Client {
         }
     }
 
+    // If a server closes while the client still sends, the client may lose an answer that was
+    // written already, such as 413. So this end writes no more first, and what the client sends is
+    // read, within limits, before the connection ends. A client that closes once it has its answer
+    // costs nothing.
     /// Closes this end, so that a client which is still sending gets its answer (RFC 9112, section
     /// 9.6).
     fn close(&mut self, shared: &mut Shared<'_>) -> Next {

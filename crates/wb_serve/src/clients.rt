@@ -34,6 +34,10 @@ pub enum ServiceEnd {
     Closed,
 }
 
+// No contract speaks of a socket, so the loop has clients by a trait, whose ghost keeps each answer
+// with what had come of its request. That bytes come from the client at whose place they are kept,
+// that they go out to it, and that each is ever served, no contract of the kit says: tests do.
+// `Network` keeps the list in a `History`, which its sockets cannot reach.
 /// The clients of an office, each at a place below [`PLACES`] while it has a connection.
 /// Source: this project's own.
 pub trait Clients {
@@ -122,6 +126,8 @@ fn answer_late<O: CarryOut, C: Clients>(
     }
 }
 
+// Once the office is closed, it still answers those whose requests have come: they would else not
+// know what became of them.
 /// Serves the clients of an office until all that were to be served have been, clients can no
 /// longer be heard, or the office is closed. Each is answered once its request has come, by one
 /// exchange as [`answer_of`] has it, and no byte of an answer is given out before its exchange has

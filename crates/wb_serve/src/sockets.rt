@@ -202,6 +202,7 @@ impl<'a> Sockets<'a> {
         self.waiting && 0 < self.left && self.count < PLACES
     }
 
+    // A larger number of places would only put off the same question.
     /// Closes the connection whose head has been coming the longest, if that is a while, or else
     /// one that says nothing.
     fn make_place(&mut self) {
