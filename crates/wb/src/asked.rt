@@ -1,4 +1,10 @@
 //! The files of an office that is only asked, to which nothing is written.
+
+// Each opening of the kit's `sqlite` writes to the log, and its closing to the database. So a query
+// that is words of the program reads the database through a `Disk` that refuses each write, and a
+// copy in memory stands for its log. An opening as for commands leaves the log with other bytes,
+// and fails where the file may only be read.
+
 ghost use Rattle.std.specs.Prelude.{◌≡◌, ◌+◌, false, IfOk, IsErr, IsTrue};
 ghost use Rattle.sqlite_disk.specs.Disk.{CountsFault};
 ghost use Rattle.sqlite_disk.specs.Memory.{memory_bytes, memory_is_usable};

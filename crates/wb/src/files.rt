@@ -17,11 +17,17 @@ use wb_store::opening_fault;
 /// without the disk.
 const PAGES_KEPT: usize = 2_000;
 
+// With 2,000 the log of such a merge had 50 MB in place of 61. With 100 the statements took an
+// eighth more time.
 /// How many pages that a command wrote are in memory before they go to the log, ahead of the commit: 2 MB. The statements of
 /// a merge of three architectures took 18 MB more with 2,000, and were no quicker: a savepoint has pages of its own, and
 /// both grow by doubling. A hand-out writes some ten pages, so it never comes to this.
 const PAGES_BEFORE_LOG: usize = 500;
 
+// `wb` opens its files itself: the kit's `Connection::open_with_sums` copies at 1,000 pages, some
+// 140 hand-outs, and of a file that cannot be opened says neither the system's reason nor which
+// program has it. With 8,000 a hand-out took 3 % less over 35,000 records, and a tenth to a quarter
+// less over 350,000; 4,000 and 32,000 differ from it by less than the runs do.
 /// How many pages the log has before it is copied into the database and begun anew: 33 MB. Each of these copies has the
 /// disk write five times, so a longer log makes commands quicker, and a start after a kill slower by the reading of it.
 const PAGES_IN_LOG: usize = 8_000;

@@ -14,6 +14,9 @@ const RESERVED_AT: usize = 20;
 /// How many of these bytes a checksum takes.
 const SUM_SIZE: u8 = 8;
 
+// The opening of such a file takes the square of its records, in the kit's test of `take INTEGER
+// UNIQUE` over many NULLs, before any code here is asked. The call that takes the time says nothing
+// on the way, so it is said before.
 /// How the statement goes on that made the table of the records, in format 1.
 const FIRST_RECORDS: &[u8] = b"TABLE source_state(";
 

@@ -40,6 +40,9 @@ impl<'a, F> Drop for FileLists<'a, F> {
     }
 }
 
+// A list is read once, from its front to its end, and nobody asks how long it is, so a pipe does as
+// well as a file. Whether a pipe's writer failed cannot be seen at the pipe, and no archive's list
+// has a mark at its end.
 impl<'a, F: Files + Eprint> Lists for FileLists<'a, F> {
     type List = BufReader<FileList<'a, F>>;
 
@@ -117,6 +120,8 @@ impl<'a, F: Files + Eprint> FileList<'a, F> {
         Ok(count)
     }
 
+    // What is decided after the reading takes two seconds for the 20,000 names of an architecture
+    // of sid, and says nothing, since the contract of an office has no call for it.
     /// Counts bytes that were read, and says how far the list is read, if it is time.
     fn count(&mut self, bytes: u64) {
         self.read = self.read.saturating_add(bytes);

@@ -23,6 +23,9 @@ pub(crate) enum LockRefusal {
     Device,
 }
 
+// The system drops this lock when the program ends, also after a kill, which the number of a
+// process in a file outlives. The kit's `sqlite` locks the file of the office as well, which keeps
+// sqlite3 out.
 /// Takes the lock on the file of these names, which is a file with the file's name and `.lock` after it that its owner alone
 /// may open.
 pub(crate) fn lock_of(rt: &HostRuntime, names: &FileNames<'_>) -> Result<FileLock, LockRefusal> {

@@ -25,6 +25,9 @@ pub(crate) struct Refused {
     name: &'static str,
 }
 
+// A link is resolved first: the kit's `sqlite` keeps the log beside the file to which it leads, so
+// that is where the log is looked for, and where the lock is. A link to no file is refused, since a
+// new office behind it is more likely a slip.
 /// Has the office over the records in the file do its work, or in the file to which a link of this name leads.
 pub(crate) fn open_for(rt: &HostRuntime, name: &str, work: Work<'_>) -> u8 {
     if names_no_file(name) {
