@@ -25,6 +25,7 @@ mod writer;
 use anyhow::{Result, bail};
 use std::io::{self, BufRead, BufReader, BufWriter};
 
+// One program for all trials over an office: several would each read the office's contracts anew.
 fn main(rt: HostRuntime) -> Result<()> {
     let mut input = BufReader::new(rt.alloc(), rt.reader())?;
     let mut output = BufWriter::new(rt.alloc(), io::writer(&rt))?;

@@ -43,6 +43,9 @@ use std::fs;
 use std::io::{BufRead, Write};
 use std::rt::Files as FileHandle;
 
+// No clause speaks of a crash within a call, so each call of the disk is tried. The kit's files in
+// memory stop at the call that a trial names, and can lose what was not synced; kills lose nothing
+// that was written.
 /// Makes each trial of the input.
 pub(crate) fn make_all<F: FileHandle + AllocGlobal, R: BufRead + Drop, W: Write>(
     rt: &F,

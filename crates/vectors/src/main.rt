@@ -28,6 +28,9 @@ fn main(rt: HostRuntime) -> Result<()> {
     Ok(())
 }
 
+// Cases are rows of data, and not tests: a test is proved like all other code, and a table of cases
+// costs the more the longer it is, though nothing is learnt from its proof. Those of requests are
+// given to `trials` in the same way.
 /// Tries the cases of a name, which picks what is tried: `version_..` and `relations..` are files of rows, and each other is a
 /// text of control data, `NAME.txt`, with its answer in `NAME.json`.
 fn try_cases(rt: &HostRuntime, name: &str) -> Result<()> {
