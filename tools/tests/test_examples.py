@@ -7,6 +7,10 @@ ones are computed from them by tools/dev/large_examples; none by the program.
 
 From the environment: WB is the program, ./wb of this repository where it is not set.
 """
+
+# Examples as test functions would each cost the gate minutes of proof. What no answer shows, such as build
+# dependencies, test_run.py reads by sqlite3.
+
 import difflib
 import itertools
 import subprocess

@@ -22,6 +22,11 @@ its reason. A making that is not listed there, and a line there that has no maki
 It does not see a growth that is asked for too much on purpose, a listed making whose condition is another than its
 reason says, and what a function of another type gives to one of these.
 """
+
+# The system chooses when a growth is refused, so no clause can say it, and a body that answers that memory ran out is
+# proved wherever no clause limits that answer. A clause for each size below which a growth must succeed would claim
+# what no allocator promises.
+
 import glob
 import os
 import re

@@ -23,6 +23,13 @@ From the environment: WB and TRIALS are the programs, those of crates/wb and cra
 which the second is then built if need be; where EACH is set, each request is refused. It needs cc, and a C library with
 which a library can be put before it.
 """
+
+# A clause says what a call answers without memory, and none says when that comes. So memory is refused from outside,
+# and nothing in the proved program knows of it. An allocator of this project's own would be another type than the
+# kit's, and --fail-alloc of the kit's `rt try` counts from the start of a program and refuses one request a run. Two
+# ends that the contracts allow have never come over files: that the office is closed after `Memory`, and that a closing
+# fails, which asks for no memory.
+
 import itertools
 import os
 import socket

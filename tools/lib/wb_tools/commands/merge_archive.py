@@ -176,6 +176,11 @@ def look_at(path: Path, arch: str) -> Look:
     return look
 
 
+# Lists are refused here, before the office is stopped, and not by the merge: it takes its lists as they are, so that
+# one definition says what it does, and which lists nobody wants to be merged depends on the archive and on the day.
+# They are looked at as they were fetched, since prepare-lists keeps each paragraph. An archive loses far fewer than 5
+# of 100 paragraphs from one day to the next. What was merged stands apart from what was fetched, so no list is compared
+# with one that was refused.
 def judge(looks: Sequence[Look], before: dict[str, int], words: argparse.Namespace) -> None:
     """Says what is wrong with the lists, and refuses them unless they are to be merged all the same."""
     found = [fault for look in looks for fault in look.faults(before.get(look.name, 0), words.least_share)]

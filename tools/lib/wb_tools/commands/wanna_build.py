@@ -1,5 +1,10 @@
 """The command wanna-build, as buildd, buildd-mail and buildd-uploader call it; `--help` says how. buildd empties the
 environment, so the settings are in a file."""
+
+# buildd looks at no status, so a report is safe only once it is written down where buildd runs: this runs there, and
+# asks the office through a tunnel. By a forced command of ssh the file would be on the office's machine; a builder may
+# say less then, and loses what buildd says while the link is down.
+
 from __future__ import annotations
 
 import os

@@ -1,4 +1,10 @@
 """Sends the request lines of a release team to a serving office; `--help` says how."""
+
+# A command of its own: wanna-build names one suite and one architecture in a call, and its answers have forms that
+# buildd reads. All lines are read before the first is sent, since half of a transition is harder to mend than none. A
+# rebuild without a number gets one number on all architectures of its line: packages that are `Multi-Arch: same` can be
+# installed beside each other in one version alone.
+
 import argparse
 import collections
 import contextlib

@@ -1,4 +1,8 @@
 """Makes a page of HTML that shows where each architecture stands; `--help` says how."""
+
+# The office of a suite knows nothing of the others, so each is asked. Their addresses and journals are told: settings
+# of offices in a checkout may stand anywhere.
+
 import argparse
 import contextlib
 import datetime

@@ -1,4 +1,10 @@
 """Serves the site of one or several offices; `--help` says how."""
+
+# Each page asks for what it shows, so no page is older than its answers, and nothing has to be made anew after a fault;
+# a cache would have to know what each command changes. Lists are sorted and parted by the address, so that pages need
+# no script. Flask and waitress are in Debian, and the standard library's server is not meant to stand behind a web
+# server.
+
 import argparse
 import os
 from pathlib import Path
