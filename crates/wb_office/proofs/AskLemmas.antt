@@ -12,7 +12,7 @@ use Rattle.wb_states.specs.declared.refusal.Refusal.TheVariants.{BadName, Closed
 use Rattle.wb_states.specs.declared.refusal.Refusal.TheVariants.{UnknownBuilder}
 use Rattle.wb_states.specs.declared.store_fault.StoreFault.{StoreFault}
 use Rattle.wb_states.specs.Holds.{held_of}
-use Rattle.wb_states.specs.Machine.{Machine}
+use Rattle.wb_states.specs.Machine.{Key, Machine}
 use Rattle.wb_states.specs.Refusals.{IsOfMachine}
 use Rattle.wb_states.specs.declared.keyed.KeyedRecord.{KeyedRecord}
 use Rattle.wb_states.specs.Lookups.{entry_of, keyed}
@@ -20,7 +20,7 @@ use Rattle.wb_states.specs.Queue.{Entry}
 use Rattle.wb_states.specs.declared.state.State.{State}
 use Rattle.wb_states.specs.declared.counts.StateCounts.{StateCounts}
 use Rattle.wb_states.specs.declared.query.Answer.{Answer}
-use Rattle.wb_states.specs.declared.query.Answer.TheVariants.{ByState, Mine, Queue, Summary}
+use Rattle.wb_states.specs.declared.query.Answer.TheVariants.{Archs, Builders, ByState, Mine, Office, Queue, Summary}
 use Rattle.wb_states.specs.Machine.{is_unknown_arch, is_unknown_builder}
 use Rattle.wb_states.specs.Refusals.{is_of_store}
 use Rattle.wb_states.specs.Queries.{mine_in}
@@ -66,6 +66,16 @@ by_state_with state arch records = Ok (ByState arch state records)
 -- the answer with the numbers of an architecture's records
 abbrev pub summary_with : ℕ → List ℕ → StateCounts → Result Answer Refusal
 summary_with accepted arch counts = Ok (Summary accepted arch counts)
+
+-- the answer with the two counts of the office, with its architectures and with its builders
+abbrev pub office_with : ℕ → ℕ → Result Answer Refusal
+office_with accepted handed = Ok (Office accepted handed)
+
+abbrev pub archs_with : ℕ → List (List ℕ × OsCpu) → Result Answer Refusal
+archs_with accepted archs = Ok (Archs accepted archs)
+
+abbrev pub builders_with : ℕ → List Key → Result Answer Refusal
+builders_with accepted pairs = Ok (Builders accepted pairs)
 
 -- the records that were looked up are the queue of the state, or its records in the state that was asked for
 pub queue-is : (arch : List ℕ) {rows : List KeyedRecord} {entries : List Entry} → each entry_of rows ≡ entries → ◌≡◌ {A = Result Answer Refusal} (Ok (Queue arch rows)) (Ok (Queue arch (each keyed entries)))

@@ -5,7 +5,8 @@ ghost use Rattle.wb_states.specs.Refusals.{is_of_store};
 ghost use Rattle.std.specs.Prelude.{Some};
 ghost use Rattle.wb_states.specs.Machine.{is_unknown_arch};
 ghost use Rattle.wb_states.specs.Queries.{answer_in, depends_at, depends_in, found_at, item_in, mine_in};
-ghost use Rattle.wb_states.specs.Queries.{queue_in, records_in, summary_in};
+ghost use Rattle.wb_states.specs.Queries.{archs_in, builders_in, office_in, queue_in, records_in};
+ghost use Rattle.wb_states.specs.Queries.{summary_in};
 ghost use Rattle.wb_states.specs.State.{state_named};
 ghost use Rattle.wb_store.specs.Finds.{Finds};
 
@@ -32,6 +33,9 @@ pub(crate) fn find_answer<S: Alter + Drop>(
         Query::Mine { builder } => find_mine(store, builder),
         Query::Depends { arch, source } => find_depends(store, arch, source),
         Query::Summary { arch } => find_summary(store, arch),
+        Query::Office => find_office(store),
+        Query::Archs => find_archs(store),
+        Query::Builders => find_builders(store),
     }
 }
 
@@ -216,5 +220,48 @@ fn find_summary<S: Alter + Drop>(
         accepted,
         arch,
         counts,
+    }))
+}
+
+/// The same for the two counts of the office.
+fn find_office<S: Alter + Drop>(store: &mut Store<S>) -> Result<Result<Answer, Refusal>, StoreFault>
+    ensures finds { Finds S.Store (λ machine answer. answer ≡ office_in machine)
+        store.old store.new result }
+    ensures kind { IfOk result (λ answer. IfErr answer (λ refusal. is_of_store refusal ≡ false)) }
+{
+    let of_office = store.office_row()?;
+    Ok(Ok(Answer::Office {
+        accepted: of_office.accepted,
+        handed: of_office.handed,
+    }))
+}
+
+/// The same for the architectures of the office.
+fn find_archs<S: Alter + Drop>(store: &mut Store<S>) -> Result<Result<Answer, Refusal>, StoreFault>
+    ensures finds { Finds S.Store (λ machine answer. answer ≡ archs_in machine)
+        store.old store.new result }
+    ensures kind { IfOk result (λ answer. IfErr answer (λ refusal. is_of_store refusal ≡ false)) }
+{
+    let of_office = store.office_row()?;
+    let archs = Items::from(store.archs()?);
+    Ok(Ok(Answer::Archs {
+        accepted: of_office.accepted,
+        archs,
+    }))
+}
+
+/// The same for the builders of the office.
+fn find_builders<S: Alter + Drop>(
+    store: &mut Store<S>,
+) -> Result<Result<Answer, Refusal>, StoreFault>
+    ensures finds { Finds S.Store (λ machine answer. answer ≡ builders_in machine)
+        store.old store.new result }
+    ensures kind { IfOk result (λ answer. IfErr answer (λ refusal. is_of_store refusal ≡ false)) }
+{
+    let of_office = store.office_row()?;
+    let pairs = Items::from(store.builders()?);
+    Ok(Ok(Answer::Builders {
+        accepted: of_office.accepted,
+        pairs,
     }))
 }

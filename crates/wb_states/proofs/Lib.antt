@@ -5,6 +5,7 @@ pub mod InStateLemmas
 pub mod ListedLemmas
 pub mod MoveFormLemmas
 pub mod MoveRowLemmas
+pub mod PairLemmas
 pub mod QueryLemmas
 pub mod QueueLemmas
 pub mod RankLemmas

@@ -16,7 +16,8 @@ use Rattle.deb_text.proofs.SortedLemmas.{IsIn-filter}
 use Rattle.wb_states.specs.declared.arch.OsCpu.{OsCpu}
 use Rattle.wb_states.specs.declared.keyed.KeyedRecord.{KeyedRecord}
 use Rattle.wb_states.specs.declared.query.Answer.{Answer}
-use Rattle.wb_states.specs.declared.query.Answer.TheVariants.{Queue, ByState, Item, Mine, Depends, Summary}
+use Rattle.wb_states.specs.declared.query.Answer.TheVariants.{Queue, ByState, Item, Mine, Depends, Summary, Office}
+use Rattle.wb_states.specs.declared.query.Answer.TheVariants.{Archs, Builders}
 use Rattle.wb_states.specs.declared.query.Query.{Query}
 use Rattle.wb_states.specs.declared.query.Query.TheVariants as asked
 use Rattle.wb_states.specs.declared.record.Record.{Record}
@@ -27,7 +28,7 @@ use Rattle.wb_states.specs.declared.state.State.TheVariants.{NeedsBuild, Buildin
 use Rattle.wb_states.specs.declared.state.State.TheVariants.{BdUninstallable, Failed, NotForUs, BuildAttempted}
 use Rattle.wb_states.specs.Holds.{held_of}
 use Rattle.wb_states.specs.Lookups.{counts_of, is_of, keyed, rows_in, rows_of}
-use Rattle.wb_states.specs.Machine.{Machine, IsArch, IsConsistent, IsRecord, archs_of, is_unknown_arch}
+use Rattle.wb_states.specs.Machine.{Machine, IsArch, IsConsistent, IsRecord, archs_of, builder_pairs, is_unknown_arch}
 use Rattle.wb_states.specs.Machine.{is_unknown_builder}
 use Rattle.wb_states.specs.Names.{has_bad_key, is_arch_name, is_builder_name}
 use Rattle.wb_states.specs.Queries.{answer_of, depends_at, found_at, listed_in, records_in}
@@ -306,6 +307,12 @@ answer_lists machine (asked.Depends arch source) answer is =
 answer_lists machine (asked.Summary arch) answer is =
     same_answer machine (Summary machine.accepted arch (counts_of machine arch)) answer (λ row within. absurd within)
     (past machine UnknownArch (is_unknown_arch machine arch) _ answer (past machine BadName _ _ answer is))
+answer_lists machine asked.Office answer is = same_answer machine (Office machine.accepted machine.handed) answer
+    (λ row within. absurd within) is
+answer_lists machine asked.Archs answer is =
+    same_answer machine (Archs machine.accepted (map.entries machine.archs)) answer (λ row within. absurd within) is
+answer_lists machine asked.Builders answer is =
+    same_answer machine (Builders machine.accepted (builder_pairs machine)) answer (λ row within. absurd within) is
 
 -- a record that is listed is what a query for it shows
 pub listed_is_shown : (machine : Machine) (query : Query) (answer : Answer) (row : KeyedRecord) → IsConsistent machine

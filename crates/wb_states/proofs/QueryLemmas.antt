@@ -78,6 +78,9 @@ answer-state machine (asked.Item arch source) = item-state machine arch source
 answer-state machine (asked.Mine builder) = mine-state machine builder
 answer-state machine (asked.Depends arch source) = depends-state machine arch source
 answer-state machine (asked.Summary arch) = summary-state machine arch
+answer-state machine asked.Office = tt
+answer-state machine asked.Archs = tt
+answer-state machine asked.Builders = tt
 
 never : (answer : Result Answer Refusal) (refusal : Refusal) → IsOfState answer → is_of_store refusal ≡ true → ¬ (answer ≡ Err refusal)
 never answer refusal of_state of_store is = both_ways (is_of_store refusal) (subst IsOfState is of_state) of_store

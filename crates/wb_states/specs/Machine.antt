@@ -1,5 +1,6 @@
 -- The state of the office, and its invariant.
-use Rattle.std.specs.Prelude.{◌≡◌, ℕ, ◌≤◌, ◌⊎◌, Bool, IsTrue, not, List, [], filter, IfSome, Some, unwrap_or, Ok}
+use Rattle.std.specs.Prelude.{◌≡◌, ℕ, ◌≤◌, ◌⊎◌, Bool, IsTrue, not, List, [], filter, map as each, IfSome, Some}
+use Rattle.std.specs.Prelude.{unwrap_or, Ok}
 use Rattle.std.specs.FinMap as map
 use Rattle.std.specs.FinSet as set
 use Rattle.wb_states.specs.declared.record.Record.{Record}
@@ -42,6 +43,14 @@ empty_office = record {
   handed = 0;
   accepted = 0;
 }
+
+-- Of the list of a finite set the standard library says which members it has, and not that each comes once; of the keys
+-- of a finite map it says both.
+
+-- the pairs of a builder and an architecture for which it was added, each once, by builder and then by architecture
+abbrev pub builder_pairs : Machine → List Key
+builder_pairs machine =
+    map.keys (map.from_entries {R = pair_cmp} (each (λ pair. (pair, tt {0})) (set.items machine.builders)))
 
 -- A filter over the names of the architectures: so the answer is in their order, and has only architectures that were
 -- added. A second map, from builder to architectures, would have to be kept in step with the set.

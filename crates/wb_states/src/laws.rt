@@ -21,7 +21,8 @@ ghost use Rattle.wb_states.specs.declared.state.State.{State};
 ghost use Rattle.wb_states.specs.declared.state.State.TheVariants.{NeedsBuild};
 ghost use Rattle.wb_states.specs.Examples.{with_place};
 ghost use Rattle.wb_states.specs.Holds.{IsBuildingAfter, building_after, held_of, take_cmp, take_of, taken_as};
-ghost use Rattle.wb_states.specs.Machine.{AreRelations, HasDistinctTakes, IsConsistent, Machine, arch_words};
+ghost use Rattle.wb_states.specs.Machine.{AreRelations, HasDistinctTakes, IsConsistent, Key};
+ghost use Rattle.wb_states.specs.Machine.{Machine, arch_words, builder_pairs};
 ghost use Rattle.wb_states.specs.Moves.{may_go, move_outcome};
 ghost use Rattle.wb_states.specs.Queries.{answer_of, listed_in};
 ghost use Rattle.wb_states.specs.Queue.{Entry, IsWaitingAt, entry_cmp, head_of, queue_of, place_cmp, place_of, rank_of};
@@ -170,6 +171,13 @@ pub fn lists_show_what_items_show()
     ensures shown { (machine : Machine) (query : Query) (answer : Answer) (row : KeyedRecord)
         → IsConsistent machine → answer_of machine query ≡ Ok answer → IsIn row (listed_in answer)
         → answer_of machine (asked.Item row.arch row.source) ≡ Ok (Item row) }
+{}
+
+/// The query for builders lists each builder with each architecture for which it was added, and no
+/// other pair.
+pub fn builders_are_listed()
+    ensures { (machine : Machine) (pair : Key)
+        → IsIn pair (builder_pairs machine) ↔ IsTrue (set.contains machine.builders pair) }
 {}
 
 /// No two states share a number or a name, and two refusals share a number exactly if they share a

@@ -1,4 +1,4 @@
-//! The limits of what an office keeps; the definitions name these constants.
+//! The limits of what an office keeps.
 
 /// The greatest value of a count (this project's own).
 pub const COUNT_LIMIT: u64 = 1_000_000_000_000;

@@ -3,7 +3,7 @@ ghost use Rattle.std.specs.Prelude.{◌≡◌};
 ghost use Rattle.wb_states.specs.Queries.{has_malformed_name};
 
 use crate::names::{is_arch, is_builder, is_source};
-use crate::{KeyedRecord, State, StateCounts};
+use crate::{KeyedRecord, OsCpu, State, StateCounts};
 use deb_text::{Items, Text};
 
 // A query is a value, as a command is: what is answered is a definition over the state
@@ -49,6 +49,12 @@ pub enum Query {
         /// The architecture.
         arch: Text,
     },
+    /// How many commands the office accepted, and the last take number that it gave.
+    Office,
+    /// The architectures of the office.
+    Archs,
+    /// The builders of the office.
+    Builders,
 }
 
 impl Query {
@@ -66,6 +72,7 @@ impl Query {
                 !(is_arch(arch.as_str()) && is_source(source.as_str()))
             }
             Query::Mine { builder } => !is_builder(builder.as_str()),
+            Query::Office | Query::Archs | Query::Builders => false,
         }
     }
 }
@@ -115,5 +122,27 @@ pub enum Answer {
         arch: Text,
         /// The numbers of records.
         counts: StateCounts,
+    },
+    /// The two counts of the office.
+    Office {
+        /// How many commands the office accepted.
+        accepted: u64,
+        /// The last take number that it gave, 0 if it gave none.
+        handed: u64,
+    },
+    /// The architectures of the office.
+    Archs {
+        /// How many commands the office accepted.
+        accepted: u64,
+        /// Each architecture with its words, by name.
+        archs: Items<(Text, OsCpu)>,
+    },
+    /// The builders of the office.
+    Builders {
+        /// How many commands the office accepted.
+        accepted: u64,
+        /// Each builder with an architecture for which it was added, by builder and then by
+        /// architecture.
+        pairs: Items<(Text, Text)>,
     },
 }

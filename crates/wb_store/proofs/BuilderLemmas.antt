@@ -23,16 +23,16 @@ use Rattle.wb_sql.specs.Queries.{Answers}
 use Rattle.wb_sql.specs.Among.{rows_in}
 use Rattle.wb_sql.specs.OfficeStatements as sql
 use Rattle.wb_sql.specs.Tables as tables
-use Rattle.wb_states.specs.Machine.{Key, Machine, IsConsistent, archs_of}
+use Rattle.wb_states.specs.Machine.{Key, Machine, IsConsistent, archs_of, builder_pairs}
+use Rattle.wb_states.proofs.PairLemmas.{any_in, as_map, get-as_map, listed-pair, marked, pair-listed}
 use Rattle.wb_rows.specs.Cells.{builder_cells}
 use Rattle.wb_rows.proofs.CellsLemmas.{builder_cells-same}
 use Rattle.wb_store.specs.Merging.{Scratch}
-use Rattle.wb_store.specs.Stands.{StandsWith, builder_pairs}
+use Rattle.wb_store.specs.Stands.{StandsWith}
 use Rattle.wb_store.specs.Lookups.{ArePairs, HaveArchs, IsReadablePair}
 use Rattle.wb_store.proofs.EqualLemmas.{are_equal, and_true, equal-Text}
 use Rattle.wb_store.proofs.FormLemmas.{kept_pair_readable}
 use Rattle.wb_store.proofs.LookupLemmas.{key_params, key_test, second_less, text_order}
-use Rattle.wb_store.proofs.MapLemmas.{as_map, contains-keys, get-as_map, marked}
 use Rattle.wb_store.proofs.OrderLemmas.{all_from_in, ascending_with, entries_ascend, entry_at, few_at, few_mapped, filter_at, kept_pass, map_injective}
 use Rattle.wb_store.proofs.TableLemmas.{SkipsRowid, IsBefore, passes, few_answer, rising_answer, whole_fits}
 
@@ -75,24 +75,6 @@ in_map f y [] within = absurd within
 in_map f y (x ∷ xs) (inl is) = (x, inl refl, is)
 in_map f y (x ∷ xs) (inr later) = let found = in_map f y xs later in (found.0, inr found.1, found.2)
 
-or_true : (a b : Bool) → b ≡ true → (a || b) ≡ true
-or_true true b is = refl
-or_true false b is = is
-
-module _ {K : Type 0} {R : K → K → Ordering} (o : IsTotalOrder R) (same : IsAntisymmetric R) where
-  in_any : (q : K) (xs : List K) → IsIn q xs → list_any (eq_by_cmp R q) xs ≡ true
-  in_any q [] within = absurd within
-  in_any q (x ∷ xs) (inl is) = ap (λ b. b || list_any (eq_by_cmp R q) xs) (ap (eq_by_cmp R q) (sym is) ∙ ap is_eq (tied_itself o q))
-  in_any q (x ∷ xs) (inr later) = or_true (eq_by_cmp R q x) (list_any (eq_by_cmp R q) xs) (in_any q xs later)
-
-  any_in : (q : K) (xs : List K) → list_any (eq_by_cmp R q) xs ≡ true → IsIn q xs
-  any_in q [] is = cc
-  any_in q (x ∷ xs) is = go (eq_by_cmp R q x) refl (any_in q xs) is
-    where
-      go : (b : Bool) → eq_by_cmp R q x ≡ b → (list_any (eq_by_cmp R q) xs ≡ true → IsIn q xs) → (b || list_any (eq_by_cmp R q) xs) ≡ true → IsIn q (x ∷ xs)
-      go true tie rest h = inl (eq_by_cmp-same same q x tie)
-      go false tie rest h = inr (rest h)
-
 -- ---- the queries
 
 abbrev pair_passes : Key → Key → Bool
@@ -127,10 +109,10 @@ module _ (machine : Machine) where
       (entries_ascend pair_cmp (finite.entries (as_map machine.builders)) (finite.entries_sorted (as_map machine.builders)))
 
   pair_in : (pair : Key) → IsIn pair pairs → set.contains machine.builders pair ≡ true
-  pair_in pair within = contains-keys pair_cmp_total machine.builders pair ∙ in_any pair_cmp_total pair_cmp-same pair pairs within
+  pair_in pair within = listed-pair machine pair within
 
   in_pairs : (pair : Key) → set.contains machine.builders pair ≡ true → IsIn pair pairs
-  in_pairs pair there = any_in pair_cmp_total pair_cmp-same pair pairs (sym (contains-keys pair_cmp_total machine.builders pair) ∙ there)
+  in_pairs pair there = pair-listed machine pair there
 
   pub pairs_readable : IsConsistent machine → AllByRecursion IsReadablePair pairs
   pairs_readable sound = all_from_in IsReadablePair pairs (λ pair within. kept_pair_readable machine sound pair (pair_in pair within))

@@ -24,7 +24,7 @@ use Rattle.wb_states.specs.declared.arch.OsCpu.{OsCpu}
 use Rattle.wb_states.specs.declared.record.Record.{Record}
 use Rattle.wb_states.specs.declared.store_fault.StoreFault.{StoreFault}
 use Rattle.wb_states.specs.declared.store_fault.Table.TheVariants.{Office, Arch, Builder, SourceRecord}
-use Rattle.wb_states.specs.Machine.{Machine}
+use Rattle.wb_states.specs.Machine.{Machine, builder_pairs}
 use Rattle.wb_states.specs.Queue.{Entry}
 use Rattle.wb_sql.specs.Calls.{RunsStatement}
 use Rattle.wb_sql.specs.Changes.{Inserts, Upserts, Updates, Deletes, SetsTable, IsOnlyOne}
@@ -42,7 +42,7 @@ use Rattle.wb_sql.specs.OfficeStatements.{office_sets, arch_row as arch_terms, b
 use Rattle.wb_sql.proofs.RecordLemmas.{arch_typed, builder_typed}
 use Rattle.wb_rows.specs.Cells.{record_cells, arch_cells, builder_cells, number}
 use Rattle.wb_store.specs.Merging.{Scratch, no_merge, stored_source, stored_binary}
-use Rattle.wb_store.specs.Stands.{AreEmptied, HoldsRows, StandsWith, office_row, record_rows, arch_rows, builder_rows, builder_pairs}
+use Rattle.wb_store.specs.Stands.{AreEmptied, HoldsRows, StandsWith, office_row, record_rows, arch_rows, builder_rows}
 use Rattle.wb_store.specs.Calls.{BecomesWith, Changes, FailsToWrite}
 use Rattle.wb_store.specs.Faults.{answer_on}
 use Rattle.wb_store.specs.Writes as write

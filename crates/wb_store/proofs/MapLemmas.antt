@@ -12,6 +12,7 @@ use Rattle.std.specs.FinMap.{IsAntisymmetric}
 use Rattle.std.specs.FinMap.Entries.{find, put, by_order, where_key, below_all, is_sorted, is_sorted-where_key, find-where_key}
 use Rattle.sqlite_trees.proofs.ListLemmas.{IsPermutation-same}
 use Rattle.deb_text.proofs.KeyLemmas.{eq_by_cmp-same}
+use Rattle.wb_states.proofs.PairLemmas.{as_map, get-as_map, marked, marked-or}
 
 split : (a b : Bool) → T (a && b) → T a × T b
 split true b h = (tt, h)
@@ -88,48 +89,20 @@ module _ {K X : Type 0} {R : K → K → Ordering} (o : IsTotalOrder R) where
 
 -- ---- sets
 
--- something, where it is so
-abbrev pub marked : Bool → Option (Unit {0})
-marked b = cond b (Some (tt {0})) None
-
-is_some-marked : (b : Bool) → is_some (marked b) ≡ b
-is_some-marked true = refl
-is_some-marked false = refl
-
-marked-or : (a b : Bool) → marked (a || b) ≡ cond a (Some (tt {0})) (marked b)
-marked-or true b = refl
-marked-or false b = refl
-
-find-items : {K : Type 0} (R : K → K → Ordering) (q : K) (ks : List K) → find R q (map (λ k. (k, tt {0})) ks) ≡ marked (list_any (eq_by_cmp R q) ks)
-find-items R q [] = refl
-find-items R q (k ∷ ks) = ap (cond (eq_by_cmp R q k) (Some (tt {0}))) (find-items R q ks) ∙ sym (marked-or (eq_by_cmp R q k) (list_any (eq_by_cmp R q) ks))
-
 module _ {K : Type 0} {R : K → K → Ordering} where
-  -- a set as a map with nothing at each item
-  abbrev pub as_map : set.FinSet R → finite.FinMap R (Unit {0})
-  as_map s = finite.from_entries {R = R} (map (λ k. (k, tt {0})) (set.items s))
-
   module _ (o : IsTotalOrder R) where
-    -- what that map has at a key
-    pub get-as_map : (s : set.FinSet R) (q : K) → finite.get (as_map s) q ≡ marked (set.contains s q)
-    get-as_map s q = finite.get-from_entries o (map (λ k. (k, tt {0})) (set.items s)) q ∙ find-items R q (set.items s) ∙ ap marked (sym (set.contains-items s q))
-
-    -- the keys of that map are the items of the set
-    pub contains-keys : (s : set.FinSet R) (q : K) → set.contains s q ≡ list_any (eq_by_cmp R q) (finite.keys (as_map s))
-    contains-keys s q = sym (is_some-marked (set.contains s q)) ∙ ap is_some (sym (get-as_map s q)) ∙ finite.contains_key-keys (as_map s) q
-
     module _ (same : IsAntisymmetric R) (s : set.FinSet R) (k : K) where
       as_map-insert : as_map (set.insert s k) ≡ finite.insert (as_map s) k tt
       as_map-insert = finite.same_map o same _ _ (λ q.
-          get-as_map (set.insert s k) q ∙ ap marked (set.contains-insert o s k q) ∙ marked-or (eq_by_cmp R q k) (set.contains s q)
-          ∙ sym (finite.get-insert o (as_map s) k tt q ∙ ap (cond (eq_by_cmp R q k) (Some (tt {0}))) (get-as_map s q)))
+          get-as_map o (set.insert s k) q ∙ ap marked (set.contains-insert o s k q) ∙ marked-or (eq_by_cmp R q k) (set.contains s q)
+          ∙ sym (finite.get-insert o (as_map s) k tt q ∙ ap (cond (eq_by_cmp R q k) (Some (tt {0}))) (get-as_map o s q)))
 
       -- an insertion of a new item puts it beside all
       pub items-added : set.contains s k ≡ false → IsPermutation (k ∷ finite.keys (as_map s)) (finite.keys (as_map (set.insert s k)))
       items-added none =
           subst (λ m. IsPermutation (k ∷ finite.keys (as_map s)) (finite.keys m)) (sym as_map-insert)
           (IsPermutation-map (λ (e : K × Unit {0}). e.0) ((k, tt) ∷ finite.entries (as_map s)) (finite.entries (finite.insert (as_map s) k tt))
-          (entries-added o same (as_map s) k tt (get-as_map s k ∙ ap marked none)))
+          (entries-added o same (as_map s) k tt (get-as_map o s k ∙ ap marked none)))
 
 -- ---- the entries of a map, inserted one after another
 

@@ -10,14 +10,13 @@ use Rattle.deb_text.specs.Text.{pair_cmp}
 use Rattle.deb_text.proofs.KeyLemmas.{pair_cmp-same, pair_cmp_total}
 use Rattle.wb_states.specs.declared.store_fault.Table.{Table}
 use Rattle.wb_states.specs.declared.store_fault.Table.TheVariants as on
-use Rattle.wb_states.specs.Machine.{Machine}
+use Rattle.wb_states.specs.Machine.{Machine, builder_pairs}
 use Rattle.wb_rows.specs.Cells.{arch_cells, builder_cells, record_cells}
 use Rattle.wb_rows.specs.Scratch.{binary_cells, source_cells}
 use Rattle.wb_rows.proofs.CellsLemmas.{arch_cells-same, builder_cells-same, number-same, record_cells-same}
 use Rattle.wb_store.specs.Merging.{Scratch}
-use Rattle.wb_store.specs.Stands.{builder_pairs}
 use Rattle.wb_store.specs.TableRows.{office_tables, rows_of_table, rows_of_tables, table_rows, with_table}
-use Rattle.wb_store.proofs.MapLemmas.{contains-keys}
+use Rattle.wb_states.proofs.PairLemmas.{contains-keys}
 use Rattle.wb_store.proofs.OrderLemmas.{map_injective}
 use Rattle.wb_store.proofs.PackageLemmas.{binary_cells-same, source_cells-same}
 

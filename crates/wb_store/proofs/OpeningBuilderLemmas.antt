@@ -24,18 +24,19 @@ use Rattle.deb_text.proofs.KeyLemmas.{pair_cmp_total}
 use Rattle.wb_states.specs.declared.arch.OsCpu.{OsCpu}
 use Rattle.wb_states.specs.declared.store_fault.StoreFault.{StoreFault}
 use Rattle.wb_states.specs.declared.store_fault.Table.TheVariants.{Builder}
-use Rattle.wb_states.specs.Machine.{Key, Machine, IsConsistent}
+use Rattle.wb_states.specs.Machine.{Key, Machine, IsConsistent, builder_pairs}
 use Rattle.wb_rows.specs.Cells.{builder_cells}
 use Rattle.wb_rows.specs.Reading.{IsNoBuilder}
 use Rattle.wb_rows.proofs.CellsLemmas.{builder_cells-same}
-use Rattle.wb_store.specs.Lookups.{AreRowsOf}
+use Rattle.wb_store.specs.Lookups.{ArePairs, AreRowsOf, IsReadablePair}
 use Rattle.wb_store.specs.Checks.{AreBadRows, HoldsBuilders, IsFormedBuilder, IsRowOf, PassesWith, Tests, has_arch}
-use Rattle.wb_store.specs.Stands.{HasBuildersOf, builder_pairs}
+use Rattle.wb_store.specs.Stands.{HasBuildersOf}
 use Rattle.wb_store.specs.Queries as ask
 use Rattle.wb_store.proofs.ArchLemmas.{name_test}
+use Rattle.wb_store.proofs.BuilderLemmas.{pairs_readable}
 use Rattle.wb_store.proofs.FormLemmas.{arch_known, arch_utf8, builder_utf8}
 use Rattle.wb_store.proofs.LookupLemmas.{text_order}
-use Rattle.wb_store.proofs.MapLemmas.{as_map, contains-keys}
+use Rattle.wb_states.proofs.PairLemmas.{as_map, contains-keys}
 use Rattle.wb_store.proofs.CheckLemmas.{only_memory, passes_from}
 use Rattle.wb_store.proofs.OrderLemmas.{all_from_in, entries_ascend, map_injective}
 use Rattle.wb_store.proofs.TableLemmas.{SkipsRowid, IsBefore, rising_answer, whole_fits}
@@ -100,6 +101,13 @@ module _ (machine : Machine) (db : Database) (has : HasBuildersOf machine db) (a
   -- the builders that are read from the answer
   pub builders_found : (made : List Key) → answer ≡ map builder_cells made → made ≡ pairs
   builders_found made is = map_injective builder_cells builder_cells-same made pairs (sym is ∙ builders_answer)
+
+  -- the answer has rows of builders alone, if the office is consistent
+  pub builders_readable : IsConsistent machine → ArePairs answer
+  builders_readable sound =
+      whole_fits builder_cells sql.all_builders [] (skips_pairs []) (λ x. refl) refl pairs
+      (rows_in db tables.builder) answer has a IsReadablePair
+      (pairs_readable machine sound) refl
 
   builders_formed : IsConsistent machine → (archs : List (List ℕ × OsCpu)) → archs ≡ finite.entries machine.archs → AreRowsOf builder_cells (IsFormedBuilder archs) answer
   builders_formed sound archs is = subst (λ l. AreRowsOf builder_cells (IsFormedBuilder l) answer) (sym is)

@@ -18,12 +18,12 @@ use Rattle.wb_states.specs.declared.counts.Counts.{Counts}
 use Rattle.wb_states.specs.declared.store_fault.StoreFault.{StoreFault}
 use Rattle.wb_states.specs.declared.store_fault.StoreFault.TheVariants.{Damaged}
 use Rattle.wb_states.specs.declared.store_fault.Table.TheVariants.{Builder}
-use Rattle.wb_states.specs.Machine.{Key, Machine}
+use Rattle.wb_states.specs.Machine.{Key, Machine, builder_pairs}
 use Rattle.wb_rows.specs.Cells.{builder_cells}
 use Rattle.wb_store.specs.Checks.{AreBadRecords, AreBadRows, AreKept, FailsToTest, HasGoodRecords, HoldsBuilders, HoldsRecords, IsFormedBuilder, PassesWith, ShowsGood, Tests}
 use Rattle.deb_text.specs.Lists.{is_nonempty}
 use Rattle.wb_store.specs.Scratch.{TestsForRows, has_rows}
-use Rattle.wb_store.specs.Stands.{HasArchsOf, HasBuildersOf, HasCountsOf, HasIn, HasRecordsOf, StandsFor, StandsIn, builder_pairs}
+use Rattle.wb_store.specs.Stands.{HasArchsOf, HasBuildersOf, HasCountsOf, HasIn, HasRecordsOf, StandsFor, StandsIn}
 use Rattle.wb_store.specs.declared.format.Format.{Format}
 use Rattle.wb_store.specs.declared.format.Format.TheVariants.{One, Two}
 use Rattle.wb_store.specs.Schemas.{AreKeptIn, query_of_records}

@@ -31,6 +31,7 @@ use Rattle.wb_states.specs.declared.record.Record.{Record}
 use Rattle.wb_states.specs.declared.store_fault.StoreFault.{StoreFault}
 use Rattle.wb_states.specs.Holds.{is_taken_as}
 use Rattle.wb_states.specs.Machine.{Key, Machine, AreWaits, IsConsistent, IsRecord, arch_words, with_words}
+use Rattle.wb_states.specs.Machine.{builder_pairs}
 use Rattle.wb_states.specs.Queue.{Entry}
 use Rattle.wb_states.proofs.QueueLemmas.{IsIn-entries}
 use Rattle.wb_rows.specs.Cells.{record_cells}
@@ -39,7 +40,7 @@ use Rattle.wb_rows.specs.Reading.{IsReadable}
 use Rattle.wb_rows.proofs.CellsLemmas.{first_cells-same, record_cells-same}
 use Rattle.wb_store.specs.Faults.{IsBadRow}
 use Rattle.wb_store.specs.Checks.{AllAfter, AreBadRecords, AreKept, FitsBeside, FitsRecords, HasGoodRecords, HasOwnTake, HoldsRecords, IsFormedRecord, IsRowOf, IsTestedRow, PassesWith, Tests, has_pair, words_among}
-use Rattle.wb_store.specs.Stands.{HasRecordsOf, builder_pairs}
+use Rattle.wb_store.specs.Stands.{HasRecordsOf}
 use Rattle.wb_store.specs.declared.format.Format.{Format}
 use Rattle.wb_store.specs.declared.format.Format.TheVariants.{One, Two}
 use Rattle.wb_store.specs.Queries.{AnswersTo, given_to, query_asked, table_asked}
@@ -47,7 +48,7 @@ use Rattle.wb_store.specs.Schemas.{AreKeptIn, IsKeptIn, IsNoneIn, cells_in, quer
 use Rattle.wb_store.proofs.ArchLemmas.{name_test}
 use Rattle.wb_store.proofs.FormLemmas.{arch_known, formed_readable}
 use Rattle.wb_store.proofs.LookupLemmas.{key_test, take_few, text_order}
-use Rattle.wb_store.proofs.MapLemmas.{contains-keys}
+use Rattle.wb_states.proofs.PairLemmas.{contains-keys}
 use Rattle.wb_store.proofs.OpeningAfterLemmas.{all_after-append, map_injective_on, none_before, only_memory_after}
 use Rattle.wb_store.proofs.CheckLemmas.{passes_from}
 use Rattle.wb_store.proofs.OrderLemmas.{entries_ascend}

@@ -10,12 +10,12 @@ use Rattle.deb_text.specs.Lists.{IsIn}
 use Rattle.deb_text.proofs.KeyLemmas.{text_cmp_total, text_cmp-same}
 use Rattle.deb_text.proofs.SortedLemmas.{IsIn-find}
 use Rattle.wb_states.specs.declared.arch.OsCpu.{OsCpu}
-use Rattle.wb_states.specs.Machine.{Key, Machine, IsArch, IsBuilder, IsConsistent}
+use Rattle.wb_states.specs.Machine.{Key, Machine, IsArch, IsBuilder, IsConsistent, builder_pairs}
 use Rattle.wb_store.specs.Checks.{AreKept, HasGoodRows, IsFormedArch, IsFormedBuilder, has_pair, HasGoodRowsIn}
 use Rattle.wb_store.specs.declared.format.Format.{Format}
 use Rattle.wb_store.specs.declared.format.Format.TheVariants.{One, Two}
 use Rattle.wb_store.specs.Schemas.{AreKeptIn}
-use Rattle.wb_store.specs.Stands.{HasArchsOf, HasBuildersOf, HasCountsOf, HasRecordsOf, StandsFor, StandsForFirst, builder_pairs}
+use Rattle.wb_store.specs.Stands.{HasArchsOf, HasBuildersOf, HasCountsOf, HasRecordsOf, StandsFor, StandsForFirst}
 use Rattle.wb_store.proofs.ArchLemmas.{archs_found}
 use Rattle.wb_store.proofs.FoundLemmas.{counts_in_format}
 use Rattle.wb_store.proofs.OpeningBuilderLemmas.{builders_found, known_arch}

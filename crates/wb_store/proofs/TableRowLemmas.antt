@@ -18,7 +18,7 @@ use Rattle.wb_states.specs.declared.scratch.BinaryRow.{BinaryRow}
 use Rattle.wb_states.specs.declared.scratch.SourceRow.{SourceRow}
 use Rattle.wb_states.specs.declared.store_fault.Table.{Table}
 use Rattle.wb_states.specs.declared.store_fault.Table.TheVariants as on
-use Rattle.wb_states.specs.Machine.{IsConsistent, Machine}
+use Rattle.wb_states.specs.Machine.{IsConsistent, Machine, builder_pairs}
 use Rattle.wb_states.specs.Queue.{Entry, rank_of}
 use Rattle.wb_states.specs.State.{code_of}
 use Rattle.wb_rows.specs.declared.cell.Cell.{Cell}
@@ -32,7 +32,7 @@ use Rattle.wb_store.specs.Lookups.{AreRowsOf, IsReadableArch, IsReadablePair}
 use Rattle.wb_store.specs.Merging.{Scratch, stored_binary, stored_source}
 use Rattle.wb_store.specs.Queries.{AnswersTo, IsCurrent}
 use Rattle.wb_store.specs.ScratchLookups.{AreReadable}
-use Rattle.wb_store.specs.Stands.{StandsWith, builder_pairs}
+use Rattle.wb_store.specs.Stands.{StandsWith}
 use Rattle.wb_store.specs.TableRows.{office_cells, query_of_table, rows_of_table}
 use Rattle.wb_store.proofs.ArchLemmas.{archs_answer}
 use Rattle.wb_store.proofs.BuilderLemmas.{pairs_readable}

@@ -17,7 +17,8 @@ use Rattle.wb_states.specs.declared.store_fault.Table.{Table}
 use Rattle.wb_states.specs.declared.store_fault.Table.TheVariants.{Office}
 use Rattle.wb_states.specs.Holds.{is_taken_as}
 use Rattle.wb_states.specs.Limits.{count_limit}
-use Rattle.wb_states.specs.Machine.{Key, Machine, AreWaits, HasDistinctTakes, IsArch, IsConsistent, IsRecord, with_words}
+use Rattle.wb_states.specs.Machine.{Key, Machine, AreWaits, HasDistinctTakes, IsArch, IsConsistent, IsRecord}
+use Rattle.wb_states.specs.Machine.{with_words, builder_pairs}
 use Rattle.wb_states.specs.Names.{is_arch_name, is_builder_name}
 use Rattle.wb_states.specs.Queue.{Entry}
 use Rattle.wb_states.specs.Record.{IsWellFormed}
@@ -25,7 +26,6 @@ use Rattle.deb_relations.specs.Names.{is_package_name}
 use Rattle.deb_text.specs.Options.{has_value}
 use Rattle.wb_rows.specs.Cells.{arch_cells, builder_cells, number}
 use Rattle.wb_store.specs.Schemas.{IsKeptIn, cells_in, number_of, query_of_records, row_in, table_of_records}
-use Rattle.wb_store.specs.Stands.{builder_pairs}
 use Rattle.wb_store.specs.Calls.{FailsToRead}
 use Rattle.wb_store.specs.Lookups.{AreRowsOf}
 use Rattle.wb_store.specs.declared.format.Format.{Format}

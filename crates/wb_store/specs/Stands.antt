@@ -1,7 +1,6 @@
 -- When a database stands for a state of the office: it has the office's tables, and they hold the rows of that state.
 use Rattle.std.specs.Prelude.{◌≡◌, List, [], ◌∷◌, map, pos, IsPermutation}
 use Rattle.std.specs.FinMap as finite
-use Rattle.std.specs.FinSet as set
 use Rattle.sqlite.specs.declared.types.Value.TheVariants.{Null, Int}
 use Rattle.sqlite.specs.Order.{Row}
 use Rattle.sqlite.specs.Effect.{Database}
@@ -10,8 +9,7 @@ use Rattle.wb_sql.specs.Rows.{cells_of, IsStored}
 use Rattle.wb_sql.specs.Tables.{office, arch, builder, source_state, scratch_source, scratch_binary}
 use Rattle.wb_sql.specs.Among.{HasOffice, HasStates, rows_in}
 use Rattle.wb_sql.specs.Upgrading.{HasFirstOffice}
-use Rattle.deb_text.specs.Text.{pair_cmp}
-use Rattle.wb_states.specs.Machine.{Machine, Key}
+use Rattle.wb_states.specs.Machine.{Machine, builder_pairs}
 use Rattle.wb_rows.specs.Cells.{arch_cells, builder_cells, number}
 use Rattle.wb_store.specs.declared.format.Format.{Format}
 use Rattle.wb_store.specs.declared.format.Format.TheVariants.{One, Two}
@@ -43,13 +41,6 @@ record_rows = record_rows_in Two
 -- the columns of each architecture of the state
 abbrev pub arch_rows : Machine → List Row
 arch_rows machine = map arch_cells (finite.entries machine.archs)
-
--- Of the list of a finite set the standard library says which members it has, and not that each comes once; of the keys
--- of a finite map it says both.
-
--- the pairs of a builder and an architecture for which it was added, each once, in their order
-abbrev pub builder_pairs : Machine → List Key
-builder_pairs machine = finite.keys (finite.from_entries {R = pair_cmp} (map (λ pair. (pair, tt {0})) (set.items machine.builders)))
 
 -- the columns of each of these pairs
 abbrev pub builder_rows : Machine → List Row

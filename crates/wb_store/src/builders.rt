@@ -1,9 +1,9 @@
 //! The builders of the office, as the tables have them.
-ghost use Rattle.std.specs.Prelude.{◌≡◌, IfOk, IfErr};
+ghost use Rattle.std.specs.Prelude.{◌≡◌, IfOk, IfErr, map as each};
 ghost use Rattle.std.specs.FinSet as set;
 ghost use Rattle.wb_rows.specs.Cells.{builder_cells};
 ghost use Rattle.wb_states.specs.declared.store_fault.Table.TheVariants.{Builder};
-ghost use Rattle.wb_states.specs.Machine.{IsConsistent, archs_of};
+ghost use Rattle.wb_states.specs.Machine.{IsConsistent, archs_of, builder_pairs};
 ghost use Rattle.wb_store.specs.Calls.{LooksUp};
 ghost use Rattle.wb_store.specs.Faults.{IsUnfit};
 ghost use Rattle.wb_store.specs.Lookups.{ArePairs, HasPair, HaveArchs};
@@ -19,6 +19,21 @@ use wb_sql::statements;
 use wb_states::{StoreFault, Table};
 
 impl<S: Alter + Drop> Store<S> {
+    /// Each builder of the office with each architecture for which it was added, by builder and
+    /// then by architecture.
+    pub fn builders(&mut self) -> Result<Vec<(Text, Text)>, StoreFault>
+        ensures looks_up { LooksUp S.Store ask.Builders (λ machine pairs.
+            pairs.items ≡ builder_pairs machine) self.old self.new result }
+    {
+        let listed = rows_of(
+            &mut self.conn,
+            Table::Builder,
+            statements::all_builders(),
+            &[],
+        )?;
+        pairs_in(listed)
+    }
+
     /// Whether the builder was added for the architecture.
     pub fn has_builder(&mut self, builder: &Text, arch: &Text) -> Result<bool, StoreFault>
         ensures looks_up { LooksUp S.Store (ask.Pair (builder.now, arch.now)) (λ machine is_there.
@@ -48,6 +63,18 @@ impl<S: Alter + Drop> Store<S> {
         )?;
         arch_names_in(rows)
     }
+}
+
+/// The builders and the architectures in these rows. The table is damaged if a row is no builder.
+fn pairs_in(rows: Vec<Row>) -> Result<Vec<(Text, Text)>, StoreFault>
+    ensures value { IfOk result (λ made. rows.items ≡ each builder_cells made.items) }
+    ensures err { IfErr result (IsUnfit Builder (ArePairs rows.items)) }
+{
+    let mut made = Vec::new(*rows.allocator());
+    for row in rows {
+        made.push(pair_in(&row)?)?;
+    }
+    Ok(made)
 }
 
 /// The architectures in these rows of builders. The table is damaged if a row is no builder.

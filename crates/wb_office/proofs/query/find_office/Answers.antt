@@ -1,0 +1,13 @@
+use Rattle.std.proofs.Common.{Ok, Err}
+use Rattle.wb_store.proofs.ReadLemmas.{handed_on}
+use Rattle.wb_office.proofs.AskLemmas.{office_with}
+use Rattle.wb_store.proofs.FindsLemmas.{fails_to_find, finds_from, finds_looked_up}
+use Rattle.wb_office.proofs.query.find_office.Goals as goal
+
+pub returns-in_err-of_office-clause-finds : goal.returns-in_err-of_office-clause-finds
+returns-in_err-of_office-clause-finds g c = fails_to_find (finds_looked_up (Err _) c.in_err-of_office.ensures.looks_up)
+    (handed_on c.from_residual.result c.from_residual.ensures.1)
+
+pub returns-clause-finds : goal.returns-clause-finds
+returns-clause-finds g c = finds_from (finds_looked_up (Ok _) c.in_ok-of_office.ensures.looks_up)
+    (λ machine sound counts. λ i. office_with (counts.1 i) (counts.0 i))
