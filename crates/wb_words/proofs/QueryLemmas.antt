@@ -74,7 +74,13 @@ each-name = (
           asks-query (codes "depends") _ refl refl (λ rows. two-words (λ arch source. query.Depends arch source) (word_of (codes "arch") rows) (word_of (codes "source") rows)),
           (
             asks-query (codes "mine") _ refl refl (λ rows. one-word (λ builder. query.Mine builder) (word_of (codes "builder") rows)),
-            tt,
+            (
+              asks-query (codes "office") _ refl refl (λ rows. tt),
+              (
+                asks-query (codes "archs") _ refl refl (λ rows. tt),
+                (asks-query (codes "builders") _ refl refl (λ rows. tt), tt),
+              ),
+            ),
           ),
         ),
       ),

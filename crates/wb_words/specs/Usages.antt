@@ -70,6 +70,9 @@ query_usages = (codes "queue", word_arguments (codes "arch" ∷ []))
     ∷ (codes "item", word_arguments (codes "arch" ∷ codes "source" ∷ []))
     ∷ (codes "depends", word_arguments (codes "arch" ∷ codes "source" ∷ []))
     ∷ (codes "mine", word_arguments (codes "builder" ∷ []))
+    ∷ (codes "office", [])
+    ∷ (codes "archs", [])
+    ∷ (codes "builders", [])
     ∷ []
 
 -- the subcommands that read files

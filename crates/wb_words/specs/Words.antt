@@ -146,7 +146,10 @@ query_named name rows = if bytes_eq name (codes "queue") then query_of (λ arch.
     else (if bytes_eq name (codes "by-state") then arch_query_of (λ arch state. query.ByState arch state) (codes "state") rows
     else (if bytes_eq name (codes "item") then arch_query_of (λ arch source. query.Item arch source) (codes "source") rows
     else (if bytes_eq name (codes "depends") then arch_query_of (λ arch source. query.Depends arch source) (codes "source") rows
-    else (if bytes_eq name (codes "mine") then query_of (λ builder. query.Mine builder) (codes "builder") rows else None)))))
+    else (if bytes_eq name (codes "mine") then query_of (λ builder. query.Mine builder) (codes "builder") rows
+    else (if bytes_eq name (codes "office") then Some query.Office
+    else (if bytes_eq name (codes "archs") then Some query.Archs
+    else (if bytes_eq name (codes "builders") then Some query.Builders else None))))))))
 
 -- what the subcommand of this name asks for with these arguments, if it asks the office
 abbrev pub query_invocation : Text → List Row → Option Invocation

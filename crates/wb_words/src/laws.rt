@@ -79,6 +79,10 @@ pub fn query_lines_are_queries()
         ≡ Some (Query (query.Depends (codes "amd64") (codes "hello"))) }
     // of a builder
     ensures mine { invocation_by (codes "mine b1") ≡ Some (Query (query.Mine (codes "b1"))) }
+    // of the office
+    ensures office { invocation_by (codes "office") ≡ Some (Query query.Office) }
+    ensures archs { invocation_by (codes "archs") ≡ Some (Query query.Archs) }
+    ensures builders { invocation_by (codes "builders") ≡ Some (Query query.Builders) }
     // words that are lacking, or too many
     ensures no_arch { invocation_by (codes "queue") ≡ None }
     ensures no_state { invocation_by (codes "by-state amd64") ≡ None }
@@ -86,6 +90,7 @@ pub fn query_lines_are_queries()
     ensures no_builder { invocation_by (codes "mine") ≡ None }
     ensures two { invocation_by (codes "summary amd64 i386") ≡ None }
     ensures three { invocation_by (codes "item amd64 hello 1.0-1") ≡ None }
+    ensures of_no_word { invocation_by (codes "builders b1") ≡ None }
     ensures option { invocation_by (codes "queue -a") ≡ None }
 {}
 

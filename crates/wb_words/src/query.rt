@@ -14,7 +14,7 @@ use std::alloc::Global;
 use wb_states::Query;
 
 /// The subcommands with their arguments.
-pub static USAGES: [(&str, &[(&str, ArgumentKind)]); 6] = [
+pub static USAGES: [(&str, &[(&str, ArgumentKind)]); 9] = [
     ("queue", &[("arch", ArgumentKind::Word)]),
     ("summary", &[("arch", ArgumentKind::Word)]),
     (
@@ -30,6 +30,9 @@ pub static USAGES: [(&str, &[(&str, ArgumentKind)]); 6] = [
         &[("arch", ArgumentKind::Word), ("source", ArgumentKind::Word)],
     ),
     ("mine", &[("builder", ArgumentKind::Word)]),
+    ("office", &[]),
+    ("archs", &[]),
+    ("builders", &[]),
 ];
 
 /// Whether a subcommand of this name asks the office.
@@ -71,6 +74,9 @@ pub(crate) fn query_named(
         "mine" => Ok(Query::Mine {
             builder: word(alloc, arguments, "builder")?,
         }),
+        "office" => Ok(Query::Office),
+        "archs" => Ok(Query::Archs),
+        "builders" => Ok(Query::Builders),
         _ => Err(WordsFault::NoCommand),
     }
 }

@@ -170,6 +170,15 @@ and these, which change nothing:
   mine BUILDER
           Shows what a builder holds
           Example: mine b1
+  office
+          Shows how many commands were accepted, and the last take number
+          Example: office
+  archs
+          Shows the architectures, each with its two words
+          Example: archs
+  builders
+          Shows the builders, each with its architectures
+          Example: builders
 
 TAKE is the take number in the answer to next or take. An argument in brackets
 may be left out. An argument that ends in .. takes several words.

@@ -12,11 +12,15 @@ returns c = record {
   item = refl;
   depends = refl;
   mine = refl;
+  office = refl;
+  archs = refl;
+  builders = refl;
   no_arch = refl;
   no_state = refl;
   no_source = refl;
   no_builder = refl;
   two = refl;
   three = refl;
+  of_no_word = refl;
   option = refl;
 }
