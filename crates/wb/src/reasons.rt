@@ -227,6 +227,7 @@ fn bad_name_in_query(query: &Query) -> Option<Reason<'_>> {
         Query::ByState { arch, state } => bad_arch("ARCH", arch).or(bad_state(state)),
         Query::Item { arch, source } | Query::Depends { arch, source } => bad_key(arch, source),
         Query::Mine { builder } => bad_builder("BUILDER", builder),
+        Query::Office | Query::Archs | Query::Builders => None,
     }
 }
 
@@ -280,5 +281,8 @@ pub(crate) fn name_of_query(query: &Query) -> &'static str {
         Query::Item { .. } => "item",
         Query::Depends { .. } => "depends",
         Query::Mine { .. } => "mine",
+        Query::Office => "office",
+        Query::Archs => "archs",
+        Query::Builders => "builders",
     }
 }

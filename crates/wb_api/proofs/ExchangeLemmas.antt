@@ -158,6 +158,9 @@ plain-in machine (query.Mine builder) refusal e = plain-unless (is_unknown_build
 plain-in machine (query.Depends arch source) refusal e =
     plain-unless (is_unknown_arch machine arch) UnknownArch refusal _ refl (plain-depends arch source (map.get machine.records (arch, source)) refusal) e
 plain-in machine (query.Summary arch) refusal e = plain-unless (is_unknown_arch machine arch) UnknownArch refusal _ refl (plain-held _ refusal) e
+plain-in machine query.Office refusal e = plain-held _ refusal e
+plain-in machine query.Archs refusal e = plain-held _ refusal e
+plain-in machine query.Builders refusal e = plain-held _ refusal e
 
 -- the refusal of a query tells no more than its number and its name
 pub plain-query : (machine : Machine) (query : Query) (refusal : Refusal) → answer_of machine query ≡ Err refusal → is_plain refusal ≡ true

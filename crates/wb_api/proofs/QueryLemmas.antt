@@ -1,6 +1,6 @@
 -- What the objects of records and of counts are printed as.
 use Rattle.std.proofs.Common.{◌≡◌, ◌∙◌, ap, append_assoc, append-nil, ℕ, List, [], ◌++◌, codes, true, false, refl, sym}
-use Rattle.std.specs.Prelude.{Bool, Option, None, Some, ℤ, pos, negsuc}
+use Rattle.std.specs.Prelude.{Bool, Option, None, Some, ℤ, pos, negsuc, decimal}
 use Rattle.std.specs.Fmt.{signed_decimal}
 use Rattle.json.specs.Print.{quoted}
 use Rattle.serde_json.specs.Data.{boolean, string}
@@ -9,10 +9,15 @@ use Rattle.serde_json.specs.Written.{compact_text, number_text, has_float}
 use Rattle.serde_json.proofs.OnLiterals.{serde_json_on_literals}
 use Rattle.wb_states.specs.declared.record.Record.{Record}
 use Rattle.wb_states.specs.declared.keyed.KeyedRecord.{KeyedRecord}
+use Rattle.wb_states.specs.Machine.{Key}
+use Rattle.wb_states.specs.declared.arch.OsCpu.{OsCpu}
 use Rattle.wb_states.specs.declared.counts.StateCounts.{StateCounts}
-use Rattle.wb_states.specs.declared.query.Answer.TheVariants.{Mine, Depends, Summary}
-use Rattle.wb_api.specs.Queries.{truth_text, quoted_or_null, decimal_or_null, fields_text, record_text, records_text, waiting_text, counts_text, query_text}
-use Rattle.wb_api.specs.QueryValues.{number_or_null, string_or_null, value_of_fields, value_of_record, value_of_waiting, value_of_depends, value_of_counts, value_of_summary}
+use Rattle.wb_states.specs.declared.query.Answer.TheVariants.{Mine, Depends, Summary, Office, Archs, Builders}
+use Rattle.wb_api.specs.Queries.{truth_text, quoted_or_null, decimal_or_null, fields_text, record_text, records_text}
+use Rattle.wb_api.specs.Queries.{waiting_text, arch_text, archs_text, pair_text, pairs_text, counts_text, query_text}
+use Rattle.wb_api.specs.QueryValues.{number_or_null, string_or_null, value_of_fields, value_of_record, value_of_waiting}
+use Rattle.wb_api.specs.QueryValues.{value_of_depends, value_of_counts, value_of_summary, value_of_office}
+use Rattle.wb_api.specs.QueryValues.{value_of_arch, value_of_pair}
 
 -- an integer is no float
 is_float-of_integer : (z : ℤ) → is_float (of_integer z) ≡ false
@@ -126,3 +131,57 @@ compact_text-value_of_summary accepted arch counts = rw (sym (compact_text-value
 
 -- what is printed for summaries
 pub ruleset printing_of_summaries = (has_float-value_of_summary, compact_text-value_of_summary)
+
+-- what the objects of the office, of an architecture and of a builder are printed as
+pub has_float-value_of_office : (accepted handed : ℕ) → has_float (value_of_office accepted handed) ≡ false
+has_float-value_of_office accepted handed = refl
+
+pub compact_text-value_of_office : (accepted handed : ℕ)
+    → compact_text (value_of_office accepted handed) ≡ query_text (Office accepted handed)
+unfolding serde_json_on_literals query_text
+compact_text-value_of_office accepted handed = refl
+
+pub has_float-value_of_arch : (arch : List ℕ × OsCpu) → has_float (value_of_arch arch) ≡ false
+has_float-value_of_arch arch = refl
+
+pub compact_text-value_of_arch : (arch : List ℕ × OsCpu) → compact_text (value_of_arch arch) ≡ arch_text arch
+unfolding serde_json_on_literals arch_text
+compact_text-value_of_arch arch = refl
+
+pub has_float-value_of_pair : (pair : Key) → has_float (value_of_pair pair) ≡ false
+has_float-value_of_pair pair = refl
+
+pub compact_text-value_of_pair : (pair : Key) → compact_text (value_of_pair pair) ≡ pair_text pair
+unfolding serde_json_on_literals pair_text
+compact_text-value_of_pair pair = refl
+
+-- what is printed for the office, and for what was added to it
+pub ruleset printing_of_the_office = (
+  has_float-value_of_office,
+  compact_text-value_of_office,
+  has_float-value_of_arch,
+  compact_text-value_of_arch,
+  has_float-value_of_pair,
+  compact_text-value_of_pair,
+)
+
+-- what is written of the architectures, and of the builders
+pub archs_written : (accepted : ℕ) (begun keyed listed ended : List ℕ) (archs : List (List ℕ × OsCpu))
+    → begun ≡ codes "{\"accepted\":" ++ decimal accepted
+    → keyed ≡ begun ++ codes ",\"archs\":[" → listed ≡ keyed ++ archs_text archs → ended ≡ listed ++ codes "]}"
+    → ended ≡ query_text (Archs accepted archs)
+unfolding query_text
+archs_written accepted begun keyed listed ended archs one two three four =
+    four ∙ ap (λ x. x ++ codes "]}") (three ∙ ap (λ x. x ++ archs_text archs) (two
+    ∙ ap (λ x. x ++ codes ",\"archs\":[") one))
+    ∙ regroup (codes "{\"accepted\":") (decimal accepted) (codes ",\"archs\":[") (archs_text archs) (codes "]}")
+
+pub builders_written : (accepted : ℕ) (begun keyed listed ended : List ℕ) (pairs : List Key)
+    → begun ≡ codes "{\"accepted\":" ++ decimal accepted
+    → keyed ≡ begun ++ codes ",\"builders\":[" → listed ≡ keyed ++ pairs_text pairs → ended ≡ listed ++ codes "]}"
+    → ended ≡ query_text (Builders accepted pairs)
+unfolding query_text
+builders_written accepted begun keyed listed ended pairs one two three four =
+    four ∙ ap (λ x. x ++ codes "]}") (three ∙ ap (λ x. x ++ pairs_text pairs) (two
+    ∙ ap (λ x. x ++ codes ",\"builders\":[") one))
+    ∙ regroup (codes "{\"accepted\":") (decimal accepted) (codes ",\"builders\":[") (pairs_text pairs) (codes "]}")

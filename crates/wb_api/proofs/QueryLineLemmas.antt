@@ -10,9 +10,14 @@ use Rattle.wb_states.specs.State.{name_of}
 use Rattle.wb_states.specs.declared.counts.StateCounts.{StateCounts}
 use Rattle.wb_states.specs.declared.record.Record.{Record}
 use Rattle.wb_states.specs.declared.keyed.KeyedRecord.{KeyedRecord}
+use Rattle.wb_states.specs.Machine.{Key}
+use Rattle.wb_states.specs.declared.arch.OsCpu.{OsCpu}
 use Rattle.wb_states.specs.declared.query.Answer.{Answer}
-use Rattle.wb_states.specs.declared.query.Answer.TheVariants.{Queue, ByState, Item, Mine, Depends, Summary}
-use Rattle.wb_api.specs.Queries.{truth_text, quoted_or_null, decimal_or_null, fields_text, record_text, records_text, waiting_text, queue_text, counts_text, query_text}
+use Rattle.wb_states.specs.declared.query.Answer.TheVariants.{Queue, ByState, Item, Mine, Depends, Summary, Office}
+use Rattle.wb_states.specs.declared.query.Answer.TheVariants.{Archs, Builders}
+use Rattle.wb_api.specs.Queries.{truth_text, quoted_or_null, decimal_or_null, fields_text, record_text, records_text}
+use Rattle.wb_api.specs.Queries.{waiting_text, queue_text, counts_text, query_text, arch_text, archs_text, pair_text}
+use Rattle.wb_api.specs.Queries.{pairs_text}
 use Rattle.wb_api.proofs.OneLineLemmas.{behind, decimal-one, quoted-one}
 
 signed_decimal-one : (z : ℤ) → IsOneLine (signed_decimal z)
@@ -54,8 +59,8 @@ record_text-one : (row : KeyedRecord) → IsOneLine (record_text row)
 record_text-one row = fields_text-one row.arch row.source row.current
 
 -- texts of one line with commas between them
-joined-one : (text : KeyedRecord → List ℕ) → ((row : KeyedRecord) → IsOneLine (text row))
-    → (rows : List KeyedRecord) → IsOneLine (flat_map (λ row. codes "," ++ text row) rows)
+joined-one : {X : Type 0} (text : X → List ℕ) → ((row : X) → IsOneLine (text row))
+    → (rows : List X) → IsOneLine (flat_map (λ row. codes "," ++ text row) rows)
 joined-one text one [] = refl
 joined-one text one (row ∷ rows) = behind (text row) _ (one row) ∙ joined-one text one rows
 
@@ -74,6 +79,28 @@ queue_text-one : (rows : List KeyedRecord) → IsOneLine (queue_text rows)
 unfolding queue_text
 queue_text-one [] = refl
 queue_text-one (row ∷ rows) = behind (waiting_text row) _ (waiting_text-one row) ∙ joined-one waiting_text waiting_text-one rows
+
+arch_text-one : (arch : List ℕ × OsCpu) → IsOneLine (arch_text arch)
+unfolding arch_text
+arch_text-one arch =
+    behind (quoted arch.0) _ (quoted-one arch.0) ∙ behind (quoted arch.1.cpu) _ (quoted-one arch.1.cpu)
+    ∙ behind (quoted arch.1.os) _ (quoted-one arch.1.os)
+
+archs_text-one : (archs : List (List ℕ × OsCpu)) → IsOneLine (archs_text archs)
+unfolding archs_text
+archs_text-one [] = refl
+archs_text-one (arch ∷ archs) = behind (arch_text arch) _ (arch_text-one arch)
+    ∙ joined-one arch_text arch_text-one archs
+
+pair_text-one : (pair : Key) → IsOneLine (pair_text pair)
+unfolding pair_text
+pair_text-one pair = behind (quoted pair.1) _ (quoted-one pair.1) ∙ behind (quoted pair.0) _ (quoted-one pair.0)
+
+pairs_text-one : (pairs : List Key) → IsOneLine (pairs_text pairs)
+unfolding pairs_text
+pairs_text-one [] = refl
+pairs_text-one (pair ∷ pairs) = behind (pair_text pair) _ (pair_text-one pair)
+    ∙ joined-one pair_text pair_text-one pairs
 
 counts_text-one : (counts : StateCounts) → IsOneLine (counts_text counts)
 unfolding counts_text
@@ -105,3 +132,9 @@ query_text-one (Depends arch source depends) =
 query_text-one (Summary accepted arch counts) =
     behind (decimal accepted) _ (decimal-one accepted) ∙ behind (quoted arch) _ (quoted-one arch)
     ∙ behind (counts_text counts) _ (counts_text-one counts)
+query_text-one (Office accepted handed) =
+    behind (decimal accepted) _ (decimal-one accepted) ∙ behind (decimal handed) _ (decimal-one handed)
+query_text-one (Archs accepted archs) =
+    behind (decimal accepted) _ (decimal-one accepted) ∙ behind (archs_text archs) _ (archs_text-one archs)
+query_text-one (Builders accepted pairs) =
+    behind (decimal accepted) _ (decimal-one accepted) ∙ behind (pairs_text pairs) _ (pairs_text-one pairs)

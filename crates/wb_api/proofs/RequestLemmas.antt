@@ -69,6 +69,9 @@ about-only query_kind.Item first second only = then-only second _ only (λ sourc
 about-only query_kind.Mine first second only = ok-only (query.Mine first)
 about-only query_kind.Depends first second only = then-only second _ only (λ source. ok-only (query.Depends first source))
 about-only query_kind.Summary first second only = ok-only (query.Summary first)
+about-only query_kind.Office first second only = ok-only query.Office
+about-only query_kind.Archs first second only = ok-only query.Archs
+about-only query_kind.Builders first second only = ok-only query.Builders
 
 query-only : (kind : QueryKind) (target : List ℕ) → OnlyBadPath (query_of kind target)
 unfolding query_of

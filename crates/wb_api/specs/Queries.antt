@@ -5,11 +5,14 @@ use Rattle.std.specs.List.{concat, join_by}
 use Rattle.json.specs.Print.{quoted}
 use Rattle.wb_states.specs.Moves.{build_text_of}
 use Rattle.wb_states.specs.State.{name_of}
+use Rattle.wb_states.specs.Machine.{Key}
+use Rattle.wb_states.specs.declared.arch.OsCpu.{OsCpu}
 use Rattle.wb_states.specs.declared.counts.StateCounts.{StateCounts}
 use Rattle.wb_states.specs.declared.record.Record.{Record}
 use Rattle.wb_states.specs.declared.keyed.KeyedRecord.{KeyedRecord}
 use Rattle.wb_states.specs.declared.query.Answer.{Answer}
-use Rattle.wb_states.specs.declared.query.Answer.TheVariants.{Queue, ByState, Item, Mine, Depends, Summary}
+use Rattle.wb_states.specs.declared.query.Answer.TheVariants.{Queue, ByState, Item, Mine, Depends, Summary, Office}
+use Rattle.wb_states.specs.declared.query.Answer.TheVariants.{Archs, Builders}
 
 -- the text of a truth value (RFC 8259, section 3)
 abbrev pub truth_text : Bool → List ℕ
@@ -77,8 +80,29 @@ counts_text counts = concat
     codes ",\"Not-For-Us\":" ∷ decimal counts.not_for_us ∷
     codes ",\"Uploaded\":" ∷ decimal counts.uploaded ∷ codes "}" ∷ [])
 
+-- the text of an architecture with its words
+unfoldable pub arch_text : List ℕ × OsCpu → List ℕ
+arch_text arch = concat
+    (codes "{\"arch\":" ∷ quoted arch.0 ∷
+    codes ",\"cpu\":" ∷ quoted arch.1.cpu ∷
+    codes ",\"os\":" ∷ quoted arch.1.os ∷ codes "}" ∷ [])
+
+-- the texts of architectures, with a comma between each two
+unfoldable pub archs_text : List (List ℕ × OsCpu) → List ℕ
+archs_text = join_by arch_text (codes ",")
+
+-- the text of a builder with an architecture for which it was added
+unfoldable pub pair_text : Key → List ℕ
+pair_text pair = concat
+    (codes "{\"arch\":" ∷ quoted pair.1 ∷
+    codes ",\"builder\":" ∷ quoted pair.0 ∷ codes "}" ∷ [])
+
+-- the texts of builders, with a comma between each two
+unfoldable pub pairs_text : List Key → List ℕ
+pairs_text = join_by pair_text (codes ",")
+
 -- the text of the answer to a query: a queue, the records in a state, a record, the records that a builder holds, what a source package needs to
--- be built, or how many records are in each state
+-- be built, how many records are in each state, the two counts of the office, its architectures, or its builders
 unfoldable pub query_text : Answer → List ℕ
 query_text (Queue arch rows) = concat
     (codes "{\"arch\":" ∷ quoted arch ∷
@@ -99,3 +123,12 @@ query_text (Summary accepted arch counts) = concat
     (codes "{\"accepted\":" ∷ decimal accepted ∷
     codes ",\"arch\":" ∷ quoted arch ∷
     codes ",\"counts\":" ∷ counts_text counts ∷ codes "}" ∷ [])
+query_text (Office accepted handed) = concat
+    (codes "{\"accepted\":" ∷ decimal accepted ∷
+    codes ",\"handed\":" ∷ decimal handed ∷ codes "}" ∷ [])
+query_text (Archs accepted archs) = concat
+    (codes "{\"accepted\":" ∷ decimal accepted ∷
+    codes ",\"archs\":[" ∷ archs_text archs ∷ codes "]}" ∷ [])
+query_text (Builders accepted pairs) = concat
+    (codes "{\"accepted\":" ∷ decimal accepted ∷
+    codes ",\"builders\":[" ∷ pairs_text pairs ∷ codes "]}" ∷ [])

@@ -4,6 +4,8 @@ use Rattle.serde_json.specs.Data.{Data, null, boolean, number, unsigned, string,
 use Rattle.serde_json.specs.Find.{of_integer}
 use Rattle.wb_states.specs.Moves.{build_text_of}
 use Rattle.wb_states.specs.State.{name_of}
+use Rattle.wb_states.specs.Machine.{Key}
+use Rattle.wb_states.specs.declared.arch.OsCpu.{OsCpu}
 use Rattle.wb_states.specs.declared.counts.StateCounts.{StateCounts}
 use Rattle.wb_states.specs.declared.record.Record.{Record}
 use Rattle.wb_states.specs.declared.keyed.KeyedRecord.{KeyedRecord}
@@ -89,6 +91,25 @@ value_of_counts counts = object
     (member (codes "Needs-Build") (number (unsigned counts.needs_build))
     (member (codes "Not-For-Us") (number (unsigned counts.not_for_us))
     (member (codes "Uploaded") (number (unsigned counts.uploaded)) no_members))))))))))
+
+-- the object of the two counts of the office
+abbrev pub value_of_office : ℕ → ℕ → Data
+value_of_office accepted handed = object
+    (member (codes "accepted") (number (unsigned accepted))
+    (member (codes "handed") (number (unsigned handed)) no_members))
+
+-- the object of an architecture with its words
+abbrev pub value_of_arch : List ℕ × OsCpu → Data
+value_of_arch arch = object
+    (member (codes "arch") (string arch.0)
+    (member (codes "cpu") (string arch.1.cpu)
+    (member (codes "os") (string arch.1.os) no_members)))
+
+-- the object of a builder with an architecture for which it was added
+abbrev pub value_of_pair : Key → Data
+value_of_pair pair = object
+    (member (codes "arch") (string pair.1)
+    (member (codes "builder") (string pair.0) no_members))
 
 -- the object of how many records of an architecture are in each state
 abbrev pub value_of_summary : ℕ → List ℕ → StateCounts → Data

@@ -43,8 +43,10 @@ query_path front parts kind = record { front = front; parts = parts; route = rou
 abbrev pub paths : List Path
 paths = command_path (codes "/v1/add-arch") AddArch
     ∷ command_path (codes "/v1/add-builder") AddBuilder
+    ∷ query_path (codes "/v1/archs") 0 query_kind.Archs
     ∷ command_path (codes "/v1/attempted") Attempted
     ∷ command_path (codes "/v1/build-priority") BuildPriority
+    ∷ query_path (codes "/v1/builders") 0 query_kind.Builders
     ∷ command_path (codes "/v1/built") Built
     ∷ command_path (codes "/v1/dep-wait") DepWait
     ∷ query_path (codes "/v1/depends/") 2 query_kind.Depends
@@ -55,6 +57,7 @@ paths = command_path (codes "/v1/add-arch") AddArch
     ∷ query_path (codes "/v1/mine/") 1 query_kind.Mine
     ∷ command_path (codes "/v1/next") Next
     ∷ command_path (codes "/v1/not-for-us") NotForUs
+    ∷ query_path (codes "/v1/office") 0 query_kind.Office
     ∷ command_path (codes "/v1/put-back") PutBack
     ∷ query_path (codes "/v1/queue/") 1 query_kind.Queue
     ∷ command_path (codes "/v1/rebuild") Rebuild
@@ -160,6 +163,9 @@ table =
     ∷ (codes "/v1/mine/{builder}", route.Query query_kind.Mine)
     ∷ (codes "/v1/depends/{arch}/{source}", route.Query query_kind.Depends)
     ∷ (codes "/v1/summary/{arch}", route.Query query_kind.Summary)
+    ∷ (codes "/v1/office", route.Query query_kind.Office)
+    ∷ (codes "/v1/archs", route.Query query_kind.Archs)
+    ∷ (codes "/v1/builders", route.Query query_kind.Builders)
     ∷ []
 
 -- the routes of the table
@@ -189,7 +195,8 @@ abbrev pub and_then : {X Y : Type 0} → Result X Fault → (X → Result Y Faul
 and_then (Ok x) next = next x
 and_then (Err fault) next = Err fault
 
--- the query of this kind about the first part of a path, and about the second if it has one
+-- the query of this kind about the first part of a path, and about the second if it has one; the office, its
+-- architectures and its builders are asked about without a part
 abbrev pub query_about : QueryKind → List ℕ → Result (List ℕ) Fault → Result Query Fault
 query_about query_kind.Queue first second = Ok (query.Queue first)
 query_about query_kind.ByState first second = and_then second (λ state. Ok (query.ByState first state))
@@ -197,6 +204,9 @@ query_about query_kind.Item first second = and_then second (λ source. Ok (query
 query_about query_kind.Mine first second = Ok (query.Mine first)
 query_about query_kind.Depends first second = and_then second (λ source. Ok (query.Depends first source))
 query_about query_kind.Summary first second = Ok (query.Summary first)
+query_about query_kind.Office first second = Ok query.Office
+query_about query_kind.Archs first second = Ok query.Archs
+query_about query_kind.Builders first second = Ok query.Builders
 
 -- the query of this kind that a target asks: its parts stand after `/v1/` and the query's name
 unfoldable pub query_of : QueryKind → List ℕ → Result Query Fault

@@ -84,10 +84,15 @@ pub fn gets_are_queries()
     ensures depends { got (codes "/v1/depends/amd64/hello")
         ≡ Ok (Query (query.Depends (codes "amd64") (codes "hello"))) }
     ensures summary { got (codes "/v1/summary/amd64") ≡ Ok (Query (query.Summary (codes "amd64"))) }
+    // the office
+    ensures office { got (codes "/v1/office") ≡ Ok (Query query.Office) }
+    ensures archs { got (codes "/v1/archs") ≡ Ok (Query query.Archs) }
+    ensures builders { got (codes "/v1/builders") ≡ Ok (Query query.Builders) }
     // other requests
     ensures empty_part { got (codes "/v1/queue/") ≡ Err NoRoute }
     ensures part_missing { got (codes "/v1/item/amd64") ≡ Err NoRoute }
     ensures part_over { got (codes "/v1/summary/amd64/hello") ≡ Err NoRoute }
+    ensures part_of_none { got (codes "/v1/builders/b1") ≡ Err NoRoute }
     ensures not_text { got (codes "/v1/item/amd64/%ff") ≡ Err BadPath }
     ensures get_of_command { got (codes "/v1/next") ≡ Err WrongMethod }
     ensures post_of_query { posted (codes "/v1/queue/amd64") (codes "{}") ≡ Err WrongMethod }

@@ -1,19 +1,25 @@
 //! The answers to queries as compact JSON, with the keys of each object in byte order. The text of a list is written
 //! record by record, so that no more than one of them is there as a value at a time.
-ghost use Rattle.std.specs.Prelude.{◌≡◌, ◌++◌, false, IfOk, OnOk};
+ghost use Rattle.std.specs.Prelude.{◌≡◌, ◌++◌, codes, decimal, false, IfOk, OnOk};
 ghost use Rattle.std.specs.String.{string_bytes};
 ghost use Rattle.json.specs.Print.{quoted};
 ghost use Rattle.serde_json.specs.View.{view};
 ghost use Rattle.serde_json.specs.Written.{compact_text, has_float};
-ghost use Rattle.wb_states.specs.declared.query.Answer.TheVariants.{Queue, ByState, Mine, Depends, Summary};
-ghost use Rattle.wb_api.specs.Queries.{query_text, queue_text, record_text, records_text, waiting_text};
-ghost use Rattle.wb_api.specs.QueryValues.{value_of_counts, value_of_depends, value_of_summary};
+ghost use Rattle.wb_states.specs.declared.query.Answer.TheVariants.{Archs, Builders, Queue};
+ghost use Rattle.wb_states.specs.declared.query.Answer.TheVariants.{ByState, Mine, Depends};
+ghost use Rattle.wb_states.specs.declared.query.Answer.TheVariants.{Office, Summary};
+ghost use Rattle.wb_api.specs.Queries.{arch_text, archs_text, pair_text, pairs_text, query_text};
+ghost use Rattle.wb_api.specs.Queries.{queue_text};
+ghost use Rattle.wb_api.specs.Queries.{record_text, records_text, waiting_text};
+ghost use Rattle.wb_api.specs.QueryValues.{value_of_arch, value_of_counts, value_of_depends};
+ghost use Rattle.wb_api.specs.QueryValues.{value_of_office};
+ghost use Rattle.wb_api.specs.QueryValues.{value_of_pair, value_of_summary};
 
 use crate::row::{string_or_null, value_of_record, value_of_waiting};
 use deb_text::Text;
 use serde_json::{Value, json};
 use std::alloc::{AllocError, Global};
-use wb_states::{Answer, KeyedRecord, State, StateCounts};
+use wb_states::{Answer, KeyedRecord, OsCpu, State, StateCounts};
 
 /// The answer to a query as one JSON object (RFC 8259), with no space and no line feed.
 ///
@@ -24,9 +30,12 @@ use wb_states::{Answer, KeyedRecord, State, StateCounts};
 /// rebuild N. A missing holder or take number is `null`. A record of a queue has this version and its source
 /// package alone. The answer to `depends` has what the source package needs to be built, or `null` if it could
 /// not be read; only there is it shown. That to `summary` has the number of records of each state under its
-/// name, and how many commands the office accepted. Texts and numbers stand as in `reply_json`, and a build
-/// priority below 0 after a minus sign. The only error is that there is no memory for the text. The keys are
-/// this project's own.
+/// name, and how many commands the office accepted. That to `office` has this number, and the last
+/// take number that was given; that to `archs` this number and each architecture with its words, by
+/// name; that to `builders` this number and each builder with an architecture for which it was
+/// added, by builder and then by architecture. Texts and numbers stand as in `reply_json`, and a
+/// build priority below 0 after a minus sign. The only error is that there is no memory for the
+/// text. The keys are this project's own.
 #[tactic(auto, unfolding(crate::specs::Queries::query_text))]
 pub fn query_json(alloc: Global, answer: &Answer) -> Result<String, AllocError>
     ensures value { IfOk result (λ text. string_bytes text ≡ query_text answer.now) }
@@ -50,6 +59,9 @@ pub fn query_json(alloc: Global, answer: &Answer) -> Result<String, AllocError>
             arch,
             counts,
         } => summary_json(alloc, *accepted, arch.as_str(), counts),
+        Answer::Office { accepted, handed } => office_json(alloc, *accepted, *handed),
+        Answer::Archs { accepted, archs } => archs_json(alloc, *accepted, archs.as_slice()),
+        Answer::Builders { accepted, pairs } => builders_json(alloc, *accepted, pairs.as_slice()),
     }
 }
 
@@ -243,4 +255,116 @@ fn value_of_counts(alloc: Global, counts: &StateCounts) -> Result<Value, AllocEr
         "Not-For-Us": counts.not_for_us,
         "Uploaded": counts.uploaded
     })
+}
+
+#[tactic(auto, using(crate::proofs::QueryLemmas::printing_of_the_office))]
+fn office_json(alloc: Global, accepted: u64, handed: u64) -> Result<String, AllocError>
+    ensures value { IfOk result (λ text. string_bytes text ≡ query_text (Office accepted handed)) }
+{
+    let value = value_of_office(alloc, accepted, handed)?;
+    value.to_string(alloc)
+}
+
+fn value_of_office(alloc: Global, accepted: u64, handed: u64) -> Result<Value, AllocError>
+    ensures { IfOk result (λ value. view value ≡ value_of_office accepted handed) }
+{
+    json!(in alloc; {"accepted": accepted, "handed": handed})
+}
+
+#[tactic(auto, unfolding(crate::specs::Queries::query_text))]
+fn archs_json(alloc: Global, accepted: u64, archs: &[(Text, OsCpu)]) -> Result<String, AllocError>
+    ensures value { IfOk result (λ text.
+        string_bytes text ≡ query_text (Archs accepted archs.now)) }
+{
+    let mut out = begun_with_accepted(alloc, accepted)?;
+    out.push_str(",\"archs\":[")?;
+    write_archs(alloc, &mut out, archs)?;
+    out.push_str("]}")?;
+    Ok(out)
+}
+
+#[tactic(auto, unfolding(crate::specs::Queries::query_text))]
+fn builders_json(alloc: Global, accepted: u64, pairs: &[(Text, Text)]) -> Result<String, AllocError>
+    ensures value { IfOk result (λ text.
+        string_bytes text ≡ query_text (Builders accepted pairs.now)) }
+{
+    let mut out = begun_with_accepted(alloc, accepted)?;
+    out.push_str(",\"builders\":[")?;
+    write_pairs(alloc, &mut out, pairs)?;
+    out.push_str("]}")?;
+    Ok(out)
+}
+
+/// The beginning of an object whose first key is `accepted`, with its number.
+fn begun_with_accepted(alloc: Global, accepted: u64) -> Result<String, AllocError>
+    ensures value { IfOk result (λ out.
+        string_bytes out ≡ codes "{\"accepted\":" ++ decimal accepted) }
+{
+    let mut out = String::from_str(alloc, "{\"accepted\":")?;
+    write_value(alloc, &mut out, &Value::from(accepted))?;
+    Ok(out)
+}
+
+/// Appends the objects of architectures, with a comma between each two.
+#[tactic(auto, unfolding(crate::specs::Queries::archs_text))]
+fn write_archs(alloc: Global, out: &mut String, archs: &[(Text, OsCpu)]) -> Result<(), AllocError>
+    ensures ok { OnOk result (string_bytes out.new ≡ string_bytes out.old ++ archs_text archs.now) }
+{
+    if let [first, others @ ..] = archs {
+        write_arch(alloc, out, first)?;
+        for arch in others {
+            out.push_str(",")?;
+            write_arch(alloc, out, arch)?;
+        }
+    }
+    Ok(())
+}
+
+#[tactic(auto, using(crate::proofs::QueryLemmas::printing_of_the_office))]
+fn write_arch(alloc: Global, out: &mut String, arch: &(Text, OsCpu)) -> Result<(), AllocError>
+    ensures ok { OnOk result (string_bytes out.new ≡ string_bytes out.old ++ arch_text arch.now) }
+{
+    let value = value_of_arch(alloc, arch)?;
+    write_value(alloc, out, &value)
+}
+
+fn value_of_arch(alloc: Global, arch: &(Text, OsCpu)) -> Result<Value, AllocError>
+    ensures { IfOk result (λ value. view value ≡ value_of_arch arch.now) }
+{
+    let (name, words) = arch;
+    json!(in alloc; {
+        "arch": name.as_str(),
+        "cpu": words.cpu.as_str(),
+        "os": words.os.as_str()
+    })
+}
+
+/// Appends the objects of builders, with a comma between each two.
+#[tactic(auto, unfolding(crate::specs::Queries::pairs_text))]
+fn write_pairs(alloc: Global, out: &mut String, pairs: &[(Text, Text)]) -> Result<(), AllocError>
+    ensures ok { OnOk result (string_bytes out.new ≡ string_bytes out.old ++ pairs_text pairs.now) }
+{
+    if let [first, others @ ..] = pairs {
+        write_pair(alloc, out, first)?;
+        for pair in others {
+            out.push_str(",")?;
+            write_pair(alloc, out, pair)?;
+        }
+    }
+    Ok(())
+}
+
+#[tactic(auto, using(crate::proofs::QueryLemmas::printing_of_the_office))]
+fn write_pair(alloc: Global, out: &mut String, pair: &(Text, Text)) -> Result<(), AllocError>
+    ensures ok { OnOk result (string_bytes out.new ≡ string_bytes out.old ++ pair_text pair.now) }
+{
+    let value = value_of_pair(alloc, pair)?;
+    write_value(alloc, out, &value)
+}
+
+fn value_of_pair(alloc: Global, pair: &(Text, Text)) -> Result<Value, AllocError>
+    ensures { IfOk result (λ value. view value ≡ value_of_pair pair.now) }
+{
+    let (builder, arch) = pair;
+    json!(in alloc; {"arch": arch.as_str(), "builder": builder.as_str()})
 }

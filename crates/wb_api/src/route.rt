@@ -44,6 +44,9 @@ pub(crate) enum QueryKind {
     Mine,
     Depends,
     Summary,
+    Office,
+    Archs,
+    Builders,
 }
 
 /// What a target is for.
@@ -54,7 +57,7 @@ pub(crate) enum Route {
 }
 
 /// The paths, as `matchit` reads them, and what each is for.
-static TABLE: [(&str, Route); 23] = [
+static TABLE: [(&str, Route); 26] = [
     ("/v1/add-arch", Route::Command(CommandKind::AddArch)),
     ("/v1/add-builder", Route::Command(CommandKind::AddBuilder)),
     ("/v1/enter", Route::Command(CommandKind::Enter)),
@@ -84,6 +87,9 @@ static TABLE: [(&str, Route); 23] = [
         Route::Query(QueryKind::Depends),
     ),
     ("/v1/summary/{arch}", Route::Query(QueryKind::Summary)),
+    ("/v1/office", Route::Query(QueryKind::Office)),
+    ("/v1/archs", Route::Query(QueryKind::Archs)),
+    ("/v1/builders", Route::Query(QueryKind::Builders)),
 ];
 
 /// Adds the paths of a table to a router. The errors are those of `matchit` for a path that cannot be read or conflicts with
@@ -197,5 +203,8 @@ pub(crate) fn query_of(alloc: Global, kind: QueryKind, target: &str) -> Result<Q
             })
         }
         QueryKind::Summary => Ok(Query::Summary { arch: first }),
+        QueryKind::Office => Ok(Query::Office),
+        QueryKind::Archs => Ok(Query::Archs),
+        QueryKind::Builders => Ok(Query::Builders),
     }
 }
