@@ -1,10 +1,12 @@
 -- What the resolver reads of a schema, where the schema is known to have a table at a place.
-use Rattle.std.proofs.Common.{◌≡◌, cond, refl, ℕ, ◌-◌, List, [], ◌∷◌, Ok, None, Some, Bool, true, false, slice_get, nat_lt, suc, ◌==◌}
+use Rattle.std.proofs.Common.{◌≡◌, cond, refl, ℕ, pos, ◌-◌, List, [], ◌∷◌, Ok, None, Some, Bool, true, false, slice_get}
+use Rattle.std.proofs.Common.{nat_lt, suc, ◌==◌}
 use Rattle.sqlite_schema.specs.declared.schema.Schema.{Schema}
 use Rattle.sqlite_schema.specs.declared.schema.Table.{Table}
 use Rattle.sqlite_schema.specs.declared.schema.Column.{Column}
 use Rattle.sqlite_schema.specs.Names.{column_named, place_of}
-use Rattle.sqlite_sql.specs.Term.{Term, col, op2}
+use Rattle.sqlite_value.specs.declared.value.Value.TheVariants.{Int}
+use Rattle.sqlite_sql.specs.Term.{Term, lit, col, op2}
 use Rattle.sqlite_resolve.specs.Lowering.{Lowering, nothing, spend, begin, finish}
 use Rattle.sqlite_resolve.specs.declared.state.Carried.{Carried}
 use Rattle.sqlite_resolve.specs.declared.state.State.{State}
@@ -109,6 +111,16 @@ pub compared_is : (schema : Schema) (table : Table) (c : Column) (at k n : ℕ) 
 unfolding compared affinity_of
 compared_is schema table c at k n alias shown aggregates op listed is plain =
     rw (of_column_is schema table c at k alias shown aggregates listed is, parameter_is schema at n alias shown aggregates, converted_left (of_declared c) (col 1 (suc k)), converted_right (of_declared c) n plain) refl
+
+-- the same of a column of numbers and 0
+pub compared_zero : (schema : Schema) (table : Table) (c : Column) (at k : ℕ) (alias : Name) (shown : List Output)
+    (aggregates : Bool) (op : BinaryOp)
+    → slice_get schema.tables at ≡ Some table → slice_get table.columns k ≡ Some c → of_declared c ≡ affinity.Numeric
+    → compared (over schema at alias shown aggregates) op (col 1 (suc k)) (lit (Int (pos 0))) ≡ op2 op (col 1 (suc k))
+    (lit (Int (pos 0)))
+unfolding compared affinity_of converted may_be_text
+compared_zero schema table c at k alias shown aggregates op listed is numeric =
+    rw (of_column_is schema table c at k alias shown aggregates listed is, numeric) refl
 
 rowid_is : (schema : Schema) (at : ℕ) (alias : Name) (shown : List Output) (aggregates : Bool) → of_column (over schema at alias shown aggregates) 1 0 ≡ affinity.Numeric
 unfolding of_column

@@ -1,5 +1,5 @@
 -- A part of a statement that was put together is opened to what it was made of.
-use Rattle.std.proofs.Common.{◌≡◌, refl, ℕ, [], None, false}
+use Rattle.std.proofs.Common.{◌≡◌, refl, ℕ, List, [], None, false}
 use Rattle.sqlite_tied.specs.Compute.{everything}
 use Rattle.sqlite_ast.specs.declared.Expr.{Expr, out-Expr, roll-Expr}
 use Rattle.sqlite_ast.specs.declared.Expr.TheOpen.{Expr-F, Shown-F}
@@ -16,6 +16,10 @@ out_column name = refl
 pub out_parameter : (n : ℕ) → out-Expr (roll-Expr (Expr-F.Parameter n)) ≡ Expr-F.Parameter n
 unfolding everything
 out_parameter n = refl
+
+pub out_integer : (text : List ℕ) → out-Expr (roll-Expr (Expr-F.Integer text)) ≡ Expr-F.Integer text
+unfolding everything
+out_integer text = refl
 
 pub out_binary : (op : Binary) (a b : Expr) → out-Expr (roll-Expr (Expr-F.Binary op a b)) ≡ Expr-F.Binary op a b
 unfolding everything

@@ -1,5 +1,6 @@
--- The SELECT statements on one table: columns of it, columns that equal parameters, an order by columns, a limit.
-use Rattle.std.proofs.Common.{ℕ, List, [], ◌∷◌, None, Some, map, Option, false}
+-- The SELECT statements on one table: columns of it, columns that equal parameters or are at least 0, an order by
+-- columns, a limit.
+use Rattle.std.proofs.Common.{ℕ, List, [], ◌∷◌, codes, None, Some, map, Option, false}
 use Rattle.sqlite_ast.specs.declared.Expr.{Expr, roll-Expr}
 use Rattle.sqlite_ast.specs.declared.Expr.TheOpen.{Expr-F, Shown-F}
 use Rattle.sqlite_ast.specs.declared.Binary.TheVariants as binary
@@ -28,6 +29,14 @@ test t = roll-Expr (Expr-F.Binary binary.Eq (column t.0) (roll-Expr (Expr-F.Para
 abbrev pub bound : Name × ℕ → Expr
 bound t = roll-Expr (Expr-F.Binary binary.Le (column t.0) (roll-Expr (Expr-F.Parameter t.1)))
 
+-- the number 0
+abbrev pub zero_number : Expr
+zero_number = roll-Expr (Expr-F.Integer (codes "0"))
+
+-- a column is at least 0
+abbrev pub from_zero : Name → Expr
+from_zero name = roll-Expr (Expr-F.Binary binary.Ge (column name) zero_number)
+
 -- a column of the result, with no other name
 abbrev pub shown : Name → Shown
 shown name = roll-Shown (Shown-F.One (column name) None name)
@@ -50,13 +59,35 @@ abbrev pub where_of : List (Name × ℕ) → Option Expr
 where_of [] = None
 where_of (t ∷ ts) = Some (where_from (test t) ts)
 
--- SELECT names FROM table WHERE tests
-abbrev pub core : Name → List Name → List (Name × ℕ) → Core
-core table names tests = roll-Core (record { distinct = false; shown = map shown names; from = source table ∷ []; filter = where_of tests; group = []; having = None })
+-- SELECT names FROM table with this WHERE
+abbrev pub core : Name → List Name → Option Expr → Core
+core table names filter =
+    roll-Core (record {
+      distinct =
+          false;
+      shown = map shown names;
+      from = source table ∷ [];
+      filter = filter;
+      group = [];
+      having = None;
+    })
 
 -- the same with ORDER BY and LIMIT
+abbrev pub select_by : Name → List Name → Option Expr → List Name → Option Expr → Select
+select_by table names filter order limit =
+    roll-Select (record {
+      with =
+          [];
+      first = core table names filter;
+      others = [];
+      order = map sort order;
+      limit = limit;
+      offset = None;
+    })
+
+-- its WHERE has tests
 abbrev pub select : Name → List Name → List (Name × ℕ) → List Name → Option Expr → Select
-select table names tests order limit = roll-Select (record { with = []; first = core table names tests; others = []; order = map sort order; limit = limit; offset = None })
+select table names tests = select_by table names (where_of tests)
 
 -- a text of this one statement, which does not ask for the time
 abbrev pub parsed : Statement → List Name → ℕ → ℕ → ℕ → Parsed

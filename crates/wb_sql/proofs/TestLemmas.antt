@@ -1,10 +1,13 @@
--- The term of a column that equals a parameter, where the schema is known to have the column's table at a place.
-use Rattle.std.proofs.Common.{◌≡◌, refl, ℕ, ◌-◌, ◌∙◌, List, Ok, Some, Bool, true, false, slice_get, nat_lt, suc}
+-- The term of a column that equals a parameter, or is at least 0, where the schema is known to have the column's table
+-- at a place.
+use Rattle.std.proofs.Common.{◌≡◌, refl, ℕ, pos, ◌-◌, ◌∙◌, List, codes, Ok, Some, Bool, true, false, slice_get, nat_lt}
+use Rattle.std.proofs.Common.{suc}
 use Rattle.sqlite_schema.specs.declared.schema.Schema.{Schema}
 use Rattle.sqlite_schema.specs.declared.schema.Table.{Table}
 use Rattle.sqlite_schema.specs.declared.schema.Column.{Column}
 use Rattle.sqlite_schema.specs.Names.{column_named, place_of}
-use Rattle.sqlite_sql.specs.Term.{Term, col, op2}
+use Rattle.sqlite_value.specs.declared.value.Value.TheVariants.{Int}
+use Rattle.sqlite_sql.specs.Term.{Term, lit, col, op2}
 use Rattle.sqlite_sql.specs.declared.ops.BinaryOp.TheVariants as by
 use Rattle.sqlite_sql.specs.declared.ops.CompareOp.TheVariants as compare
 use Rattle.sqlite_value.specs.declared.keys.Collation.{Collation}
@@ -13,16 +16,19 @@ use Rattle.sqlite_resolve.specs.declared.state.Carried.{Carried}
 use Rattle.sqlite_resolve.specs.declared.state.State.{State}
 use Rattle.sqlite_resolve.specs.declared.state.Passes.TheVariants as hands
 use Rattle.sqlite_resolve.specs.declared.scope.Output.{Output}
+use Rattle.sqlite_resolve.specs.declared.compare.Affinity.TheVariants as affinity
 use Rattle.sqlite_resolve.specs.Compare.{compared, of_declared}
+use Rattle.sqlite_resolve.specs.Literal.{integer, decimal}
 use Rattle.sqlite_resolve.specs.Scope.{Context, declared}
 use Rattle.sqlite_resolve.specs.Expr.{lower_to, node, opened, passes, is_identity, both, operation, combine, tests_truth, tests_alias, wanted_truth}
 use Rattle.sqlite_ast.specs.declared.Expr.{Expr, roll-Expr}
 use Rattle.sqlite_ast.specs.declared.Expr.TheOpen.{Expr-F}
 use Rattle.sqlite_ast.specs.declared.Binary.{Binary}
 use Rattle.sqlite_ast.specs.declared.Binary.TheVariants as binary
-use Rattle.wb_sql.proofs.SelectForm.{Name, column, test, bound}
-use Rattle.wb_sql.proofs.OpenedLemmas.{out_parameter, out_binary}
-use Rattle.wb_sql.proofs.ColumnLemmas.{over, at_budget, lower_column, compared_is, rowid_compared_is, is_plain}
+use Rattle.wb_sql.proofs.SelectForm.{Name, column, test, bound, zero_number, from_zero}
+use Rattle.wb_sql.proofs.OpenedLemmas.{out_parameter, out_integer, out_binary}
+use Rattle.wb_sql.proofs.ColumnLemmas.{over, at_budget, lower_column, compared_is, compared_zero, rowid_compared_is}
+use Rattle.wb_sql.proofs.ColumnLemmas.{is_plain}
 
 both_is : (lower : Context → Expr → Lowering Term) (cx : Context) (op : Binary) (a b : Expr) (x y : Term) (s s1 s2 : State)
     → is_identity op ≡ false → lower cx a s ≡ Ok (x, s1) → lower cx b s1 ≡ Ok (y, s2) → both lower cx op a b s ≡ combine cx op (chosen s1.last s2.last) x y s2
@@ -53,6 +59,25 @@ lower_parameter : (cx : Context) (depth next n m : ℕ) (last : Carried) → nat
     → lower_to (suc depth) cx (roll-Expr (Expr-F.Parameter m)) (at_budget next n last) ≡ Ok (col 0 (m - 1), at_budget next (n - 1) nothing)
 unfolding lower_to node spend begin finish
 lower_parameter cx depth next n m last enough = rw (enough, opened_parameter (lower_to depth) cx m (at_budget next (n - 1) nothing), passes_parameter m) refl
+
+passes_zero : passes zero_number ≡ hands.Nothing
+unfolding passes
+passes_zero = rw (out_integer (codes "0")) refl
+
+opened_zero : (lower : Context → Expr → Lowering Term) (cx : Context) (s : State)
+    → opened lower cx zero_number s ≡ Ok (lit (Int (pos 0)), s)
+unfolding opened integer decimal
+opened_zero lower cx s = rw (out_integer (codes "0")) refl
+
+lower_zero : (cx : Context) (depth next n : ℕ) (last : Carried) → nat_lt 1 n ≡ true
+    → lower_to (suc depth) cx zero_number (at_budget next n last) ≡ Ok (
+      lit (Int (pos 0)),
+      at_budget next
+          (n - 1) nothing,
+    )
+unfolding lower_to node spend begin finish
+lower_zero cx depth next n last enough =
+    rw (enough, opened_zero (lower_to depth) cx (at_budget next (n - 1) nothing), passes_zero) refl
 
 lower_binary : (cx : Context) (op : Binary) (a b : Expr) (t : Term) (depth next n left : ℕ) (last carried : Carried) → nat_lt 1 n ≡ true
     → operation (lower_to depth) cx op a b (at_budget next (n - 1) nothing) ≡ Ok (t, at_budget next left carried)
@@ -120,3 +145,33 @@ lower_bound schema table c at k m alias shown aggregates depth next n last liste
     (lower_parameter cx depth next ((n - 1) - 1) m (declared table k c) e3)
     (combine_at_most cx how (col 1 0) (col 0 (m - 1)) (at_budget next (((n - 1) - 1) - 1) nothing)
     ∙ rw (rowid_compared_is schema at (m - 1) alias shown aggregates (by.Compare compare.Le how)) refl)
+
+combine_at_least : (cx : Context) (how : Collation) (x y : Term) (s : State)
+    → combine cx binary.Ge how x y s ≡ Ok (compared cx (by.Compare compare.Ge how) x y, s)
+unfolding combine
+combine_at_least cx how x y s = refl
+
+-- a column of numbers is at least 0
+pub lower_from_zero : (schema : Schema) (table : Table) (c : Column) (at k : ℕ) (alias : Name) (shown : List Output)
+    (aggregates : Bool) (depth next n : ℕ) (last : Carried)
+    → slice_get schema.tables at ≡ Some table → IsColumn table k c → place_of table k ≡ suc k
+    → of_declared c ≡ affinity.Numeric
+    → nat_lt 1 n ≡ true → nat_lt 1 (n - 1) ≡ true → nat_lt 1 ((n - 1) - 1) ≡ true
+    → lower_to (suc (suc depth)) (over schema at alias shown aggregates) (from_zero c.name) (at_budget next n last)
+    ≡ Ok (
+      op2 (by.Compare compare.Ge (chosen (declared table k c) nothing)) (col 1 (suc k)) (lit (Int
+          (pos 0))),
+      at_budget next (((n - 1) - 1) - 1) nothing,
+    )
+lower_from_zero schema table c at k alias shown aggregates depth next n last listed column_is place numeric e1 e2 e3 =
+    let cx : Context = over schema at alias shown aggregates in
+    let how : Collation = chosen (declared table k c) nothing in
+    let left : lower_to (suc depth) cx (column c.name) (at_budget next (n - 1) nothing) ≡ Ok (col 1 (suc k), at_budget next ((n - 1) - 1) (declared table k c)) =
+    lower_column schema table c at k alias c.name shown aggregates depth next (n - 1) nothing listed column_is.named column_is.is e2 ∙ rw place refl in
+    lower_both cx binary.Ge (column c.name) zero_number (col 1 (suc k)) (lit (Int (pos 0))) (op2
+    (by.Compare compare.Ge how) (col 1 (suc k)) (lit (Int (pos 0))))
+    (suc depth) next n ((n - 1) - 1) (((n - 1) - 1) - 1) last (declared table k c) nothing e1 refl left
+    (lower_zero cx depth next ((n - 1) - 1) (declared table k c) e3)
+    (combine_at_least cx how (col 1 (suc k)) (lit (Int (pos 0))) (at_budget next (((n - 1) - 1) - 1) nothing)
+    ∙ rw (compared_zero schema table c at k alias shown aggregates
+    (by.Compare compare.Ge how) listed column_is.is numeric) refl)

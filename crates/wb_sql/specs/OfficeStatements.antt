@@ -6,7 +6,7 @@ use Rattle.sqlite_value.specs.Keys.{ascending}
 use Rattle.sqlite.specs.declared.types.Value.TheVariants.{Null, Int}
 use Rattle.sqlite.specs.Term.{Term, lit, col, op2}
 use Rattle.sqlite_sql.specs.declared.ops.BinaryOp.TheVariants.{Compare}
-use Rattle.sqlite_sql.specs.declared.ops.CompareOp.TheVariants.{Eq}
+use Rattle.sqlite_sql.specs.declared.ops.CompareOp.TheVariants.{Eq, Ge}
 use Rattle.wb_sql.specs.Queries.{TableQuery}
 
 -- the parameter at this place, counted from 0
@@ -20,6 +20,10 @@ cell at = col 1 at
 -- a column equals a parameter
 abbrev pub equals : ℕ → ℕ → Term
 equals place at = op2 (Compare Eq Binary) (cell place) (parameter at)
+
+-- a column is a number from 0, so it is not NULL
+abbrev pub from_zero : ℕ → Term
+from_zero place = op2 (Compare Ge Binary) (cell place) (lit (Int (pos 0)))
 
 -- a column, in rising order
 abbrev pub rising : ℕ → Term × Key
@@ -82,9 +86,9 @@ head_of = records_where (equals 1 0 ∷ equals 3 1 ∷ []) queue_order (lit (Int
 abbrev pub record_of_take : TableQuery
 record_of_take = records_where (equals 10 0 ∷ []) [] no_limit
 
--- the records that a builder holds, by architecture and then by source package
+-- the records that a builder holds under a take number, by architecture and then by source package
 abbrev pub held_by : TableQuery
-held_by = records_where (equals 9 0 ∷ []) (rising 1 ∷ rising 2 ∷ []) no_limit
+held_by = records_where (equals 9 0 ∷ from_zero 10 ∷ []) (rising 1 ∷ rising 2 ∷ []) no_limit
 
 -- the records of an architecture, by source package
 abbrev pub records_of_arch : TableQuery
