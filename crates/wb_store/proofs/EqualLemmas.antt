@@ -1,5 +1,7 @@
 -- When SQL finds two values equal, and how it orders them.
-use Rattle.std.proofs.Common.{◌≡◌, ℕ, pos, Bool, true, false, ◌&&◌, List, Option, None, Some, bytes_eq, nat_eq, Decides, refl, ap, subst, ◌∙◌, arith, Ordering, Less, Equal, Greater, nat_cmp, int_cmp, is_eq}
+use Rattle.std.proofs.Common.{◌≡◌, ℕ, pos, Bool, true, false, ◌&&◌, List, Option, None, Some, is_some, bytes_eq, nat_eq}
+use Rattle.std.proofs.Common.{Decides, refl, ap, subst, ◌∙◌, arith, Ordering, Less, Equal, Greater, nat_cmp, int_cmp}
+use Rattle.std.proofs.Common.{is_eq, is_ge}
 use Rattle.std.specs.Ordering.{ordering_then}
 use Rattle.std.proofs.lemmas.Bool.Decides.{nat_tests, same_from_decides}
 use Rattle.std.proofs.lemmas.Cmp.{tied_itself}
@@ -9,7 +11,7 @@ use Rattle.sqlite.specs.Collation.TheVariants.{Binary}
 use Rattle.sqlite.specs.declared.types.Value.{Value}
 use Rattle.sqlite.specs.declared.types.Value.TheVariants.{Null, Text}
 use Rattle.sqlite_sql.specs.declared.ops.BinaryOp.TheVariants.{Compare}
-use Rattle.sqlite_sql.specs.declared.ops.CompareOp.TheVariants.{Eq}
+use Rattle.sqlite_sql.specs.declared.ops.CompareOp.TheVariants.{Eq, Ge}
 use Rattle.sqlite_sql.specs.Ops.{binary, is_true, from_truth}
 use Rattle.sqlite_value.specs.Order.{value_cmp}
 use Rattle.sqlite_value.proofs.OrderLemmas.{value_cmp-Int, value_cmp-Text}
@@ -70,6 +72,20 @@ equal-number_or_null (Some m) n = equal-number m n
 -- the order of two numbers
 pub order-number : (m n : ℕ) → value_cmp (number m) (number n) ≡ nat_cmp m n
 order-number m n = value_cmp-Int (pos m) (pos n) ∙ int_cmp-numbers m n
+
+-- SQL finds the value to be at least 0
+abbrev pub is_from_zero : Value → Bool
+is_from_zero a = is_true (binary (Compare Ge Binary) a (number 0))
+
+nat_cmp-zero : (n : ℕ) → is_ge (nat_cmp n 0) ≡ true
+nat_cmp-zero n = grind (arith, nat_tests)
+
+-- each number from 0 is, and NULL is not
+pub from_zero-number_or_null : (found : Option ℕ) → is_from_zero (number_or_null found) ≡ is_some found
+unfolding binary
+from_zero-number_or_null None = refl
+from_zero-number_or_null (Some n) = true_is (is_ge (value_cmp (number n) (number 0))) ∙ ap is_ge (order-number n 0)
+    ∙ nat_cmp-zero n
 
 pub and_true : (b : Bool) → (b && true) ≡ b
 and_true true = refl

@@ -115,9 +115,12 @@ module _ (machine : Machine) {scratch : Scratch} (db : Database) (stands : Stand
         entries_are rows _ (state_answer machine db stands _ arch state (subst (λ p. Answers sql.records_in_state p (rows_in db tables.source_record) (map keyed_cells rows)) given a))
 
     -- what a builder holds
-    pub held_found : (builder : List ℕ) → params ≡ Text builder ∷ [] → Answers sql.held_by params (rows_in db tables.source_record) (map keyed_cells rows)
+    pub held_found : IsConsistent machine → (builder : List ℕ) → params ≡ Text builder ∷ []
+        → Answers sql.held_by params (rows_in db tables.source_record) (map keyed_cells rows)
         → map entry_of rows ≡ filter (is_held_by builder) (finite.entries machine.records)
-    held_found builder given a = entries_are rows _ (held_answer machine db stands _ builder (subst (λ p. Answers sql.held_by p (rows_in db tables.source_record) (map keyed_cells rows)) given a))
+    held_found sound builder given a =
+        entries_are rows _ (held_answer machine db stands _ sound builder (subst (λ p. Answers sql.held_by p
+        (rows_in db tables.source_record) (map keyed_cells rows)) given a))
 
     -- the queue
     pub queue_found : IsConsistent machine → (arch : List ℕ) → params ≡ queue_params arch → Answers sql.queue_of params (rows_in db tables.source_record) (map keyed_cells rows) → map entry_of rows ≡ queue_of machine arch

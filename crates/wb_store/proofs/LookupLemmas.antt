@@ -1,5 +1,7 @@
 -- What each query on the table of records answers, as the state of the office.
-use Rattle.std.proofs.Common.{◌≡◌, ◌⊎◌, ℕ, Bool, true, false, ◌&&◌, List, [], ◌∷◌, map, filter, take, refl, sym, ap, ap₂, subst, ◌∙◌, Option, Some, None, IfSome, Less, Equal, is_eq, nat_eq, bytes_eq, IsPermutation}
+use Rattle.std.proofs.Common.{◌≡◌, ◌⊎◌, ℕ, Bool, true, false, cond, ◌&&◌, List, [], ◌∷◌, map, filter, take, refl, sym}
+use Rattle.std.proofs.Common.{ap, ap₂, subst, ◌∙◌, Option, Some, None, is_some, IfSome, Less, Equal, is_eq, nat_eq}
+use Rattle.std.proofs.Common.{bytes_eq, IsPermutation}
 use Rattle.std.specs.List.{AllByRecursion}
 use Rattle.std.specs.Ordering.{eq_by_cmp, ordering_then}
 use Rattle.std.specs.FinMap as finite
@@ -34,13 +36,15 @@ use Rattle.wb_states.proofs.QueueLemmas.{IsIn-entries, IsIn-queue_of, sorted-que
 use Rattle.wb_states.proofs.RankLemmas.{rank-order}
 use Rattle.wb_states.specs.Lookups.{is_in, is_of, rows_of}
 use Rattle.wb_states.specs.Lookups.{rows_in as records_in}
-use Rattle.wb_rows.specs.Cells.{record_cells, state_cells, number}
+use Rattle.wb_rows.specs.Cells.{record_cells, state_cells, number, number_or_null}
 use Rattle.wb_rows.specs.Reading.{IsReadable}
 use Rattle.wb_rows.specs.Scratch.{name_cells}
 use Rattle.wb_store.specs.Merging.{Scratch}
 use Rattle.wb_store.specs.Stands.{StandsWith}
 use Rattle.wb_store.specs.Lookups.{AreRecords}
-use Rattle.wb_store.proofs.EqualLemmas.{are_equal, and_true, then_none, nat_eq-turned, equal-Text, equal-number, equal-text_or_null, equal-number_or_null, order-number}
+use Rattle.wb_store.proofs.EqualLemmas.{are_equal, and_true, then_none, nat_eq-turned, equal-Text, equal-number}
+use Rattle.wb_store.proofs.EqualLemmas.{equal-text_or_null, equal-number_or_null, from_zero-number_or_null}
+use Rattle.wb_store.proofs.EqualLemmas.{is_from_zero, order-number}
 use Rattle.wb_store.proofs.FormLemmas.{kept_readable}
 use Rattle.wb_store.proofs.OrderLemmas.{all_from_in, kept_pass, ascending_with, entries_ascend, ascending_from_strict, entry_at, filter_at, few_at, at_most_one, IsPermutation-sorted_by}
 use Rattle.wb_store.proofs.TableLemmas.{SkipsRowid, IsBefore, passes, answer_same, few_answer, rising_answer, rising_first, rising_shown, whole_fits, first_fits_too}
@@ -103,8 +107,25 @@ waiting_passes arch entry =
 taken_passes : (take_number : ℕ) (entry : Entry) → entry_passes sql.record_of_take (number take_number ∷ []) entry ≡ is_taken_as take_number entry
 taken_passes take_number entry = and_true _ ∙ equal-number_or_null entry.1.take take_number
 
-held_passes : (builder : List ℕ) (entry : Entry) → entry_passes sql.held_by (Text builder ∷ []) entry ≡ is_held_by builder entry
-held_passes builder entry = and_true _ ∙ equal-text_or_null entry.1.holder builder
+held_passes : (builder : List ℕ) (entry : Entry)
+    → entry_passes sql.held_by (Text builder ∷ []) entry ≡ (is_held_by builder entry && is_some entry.1.take)
+held_passes builder entry =
+    ap₂ ◌&&◌ (equal-text_or_null entry.1.holder builder) (and_true (is_from_zero (number_or_null entry.1.take))
+    ∙ from_zero-number_or_null entry.1.take)
+
+-- where a holder and a take number come together, what a builder holds has a take number
+with_take : (builder : List ℕ) (holder : Option (List ℕ)) (given : Option ℕ) (is_held : Bool)
+    → is_some holder ≡ is_held → is_some given ≡ is_held
+    → (has_value (bytes_eq builder) holder && is_some given) ≡ has_value (bytes_eq builder) holder
+with_take builder None given is_held held taken = refl
+with_take builder (Some other) given is_held held taken = ap (λ b. bytes_eq builder other && b) (taken ∙ sym held)
+    ∙ and_true (bytes_eq builder other)
+
+-- two tests that agree on each keep the same
+filter_same_each : {X : Type 0} (p q : X → Bool) (xs : List X) → AllByRecursion (λ x. p x ≡ q x) xs
+    → filter p xs ≡ filter q xs
+filter_same_each p q [] all = refl
+filter_same_each p q (x ∷ xs) all = ap₂ (λ keep rest. cond keep (x ∷ rest) rest) all.0 (filter_same_each p q xs all.1)
 
 -- ---- no query reads a rowid
 
@@ -182,6 +203,19 @@ module _ (machine : Machine) where
   well_formed sound entry kept =
       let is : IsRecord machine entry.0.0 entry.0.1 entry.1 = subst (λ found. IfSome found (IsRecord machine entry.0.0 entry.0.1)) kept (sound.records entry.0.0 entry.0.1) in
       is.fields
+
+  -- what a builder holds is what passes the tests of its query, if the office is consistent
+  held_kept : IsConsistent machine → (builder : List ℕ)
+      → filter (is_held_by builder) entries ≡ filter (entry_passes sql.held_by (Text builder ∷ [])) entries
+  held_kept sound builder =
+      filter_same_each (is_held_by builder) (entry_passes sql.held_by (Text builder
+      ∷ [])) entries (all_from_in _ entries each)
+    where
+      each : (entry : Entry) → IsIn entry entries
+          → is_held_by builder entry ≡ entry_passes sql.held_by (Text builder ∷ []) entry
+      each entry within =
+          let fits = (well_formed sound entry ((IsIn-entries machine entry).0 within)).state in
+          sym (held_passes builder entry ∙ with_take builder entry.1.holder entry.1.take _ fits.held fits.taken)
 
   -- the records of an architecture ascend by their source packages
   arch_ascends : (arch : List ℕ) → IsAscending (λ x y. IsBefore sql.records_of_arch (Text arch ∷ []) (record_cells x) (record_cells y)) (filter (is_of arch) entries)
@@ -307,10 +341,13 @@ module _ (machine : Machine) {scratch : Scratch} (db : Database) (stands : Stand
       (λ e. sym (arch_passes arch e)) kept))
 
   -- what a builder holds, by the keys
-  pub held_answer : (builder : List ℕ) → Answers sql.held_by (Text builder ∷ []) (rows_in db tables.source_record) answer → answer ≡ map record_cells (filter (is_held_by builder) kept)
-  held_answer builder a =
+  pub held_answer : IsConsistent machine → (builder : List ℕ)
+      → Answers sql.held_by (Text builder ∷ []) (rows_in db tables.source_record) answer
+      → answer ≡ map record_cells (filter (is_held_by builder) kept)
+  held_answer sound builder a =
       rising_answer record_cells sql.held_by (Text builder ∷ []) (skips_holder (Text builder ∷ [])) (λ e. refl) refl kept (rows_in db tables.source_record) answer stands.records a
-      (filter (is_held_by builder) kept) (held_ascends machine builder) (IsPermutation-same _ _ (filter_same (is_held_by builder) _ (λ e. sym (held_passes builder e)) kept)) refl
+      (filter (is_held_by builder) kept) (held_ascends machine builder) (IsPermutation-same _ _
+      (held_kept machine sound builder)) refl
 
   -- the queue of an architecture
   pub queue_answer : IsConsistent machine → (arch : List ℕ) → Answers sql.queue_of (queue_params arch) (rows_in db tables.source_record) answer → answer ≡ map record_cells (queue_of machine arch)

@@ -112,7 +112,7 @@ impl<S: Alter + Drop> Writing<'_, S> {
     /// sees what the transaction wrote.
     pub fn held_by(&mut self, builder: &Text) -> Result<Vec<KeyedRecord>, StoreFault>
         ensures looks_up { LooksUp S.Store (ask.HeldBy builder.now) (λ machine rows.
-            each entry_of rows.items ≡ held_of machine builder.now)
+            IsConsistent machine → each entry_of rows.items ≡ held_of machine builder.now)
             self.old.store.now self.new.store.now result }
         ensures same_reference { self.new.store.ghost_name ≡ self.old.store.ghost_name }
         ensures same_merge { KeepsMerge self.old self.new }

@@ -31,8 +31,9 @@ returns g c =
     record {
       looks_up = rw (← c.self.view_is) (looks_up (asks_of (ask.HeldBy c.args.builder.now) tt c.held_by.ensures (ap
           (λ v. v ∷ []) (text_bound c.params-to_sql.ensures c.as_str.ensures))) refl c.in_ok-rows.ensures.reads
-          (λ machine scratch stands a. held_sorted machine builder c.in_ok-rows.rows.items c.sort_by_key.new.self.items
+          (λ machine scratch stands a sound. held_sorted machine builder c.in_ok-rows.rows.items
+          c.sort_by_key.new.self.items
           (IsNonDecreasingBy-from_sort_by_key number_of _ c.in_ok-sort_by_key.ensures.sorted (λ a r q k. search rules))
           (c.in_ok-sort_by_key.ensures.stable number_of (answers_always _ _ _ (λ f a r g h. search rules)))
-          (held_found machine db stands c.in_ok-rows.rows.items builder refl a)));
+          (held_found machine db stands c.in_ok-rows.rows.items sound builder refl a)));
     }
