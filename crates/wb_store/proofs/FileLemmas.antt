@@ -1,5 +1,5 @@
 -- An office over two files: closed and opened again, it stands for the state that it had.
-use Rattle.std.proofs.Common.{◌≡◌, ◌⊎◌, inl, inr, Result, Ok, Err, IfOk, refl, sym, ap, subst, ◌∙◌}
+use Rattle.std.proofs.Common.{◌≡◌, ◌⊎◌, inl, inr, None, Result, Ok, Err, IfOk, refl, sym, ap, subst, ◌∙◌}
 use Rattle.std.proofs.Math.Logic.{∥∥₁_elim, ∥∥₁_map}
 use Rattle.sqlite_disk.specs.declared.Disk.{Ghosts}
 use Rattle.sqlite_disk.specs.declared.Files.{Files}
@@ -233,10 +233,11 @@ module _ {D : Type 0} (g : Ghosts D) {c : Held (FileStore D g)} {fault : StoreFa
 pub refused_over : {D : Type 0} (g : Ghosts D) → SeenMayStay g → (c : Held (FileStore D g)) (files : Files D) {fault : StoreFault} {back : Files D}
     → (HasCleanDisk (file_state c) → IsOpened c) → (HasCleanDisk (file_state c) → Finds files c)
     → (HasCleanDisk (file_state c) → (db : Trees) → AreSettled g files db → (file_state c).committed.trees ≡ db)
-    → (HasCleanDisk (file_state c) → LeavesAlone (file_state c) (file_state c).committed.trees) → AreGivenUp c fault back → AreRefusedOver g files fault back
-refused_over g stays c files {back = back} opened finds found alone given = record {
+    → (HasCleanDisk (file_state c) → LeavesAlone (file_state c) (file_state c).committed.trees) → c.step_limit ≡ None → AreGivenUp c fault back → AreRefusedOver g files fault back
+refused_over g stays c files {back = back} opened finds found alone unlimited given = record {
   conn = c;
   opened = is_over g c files opened found alone;
+  unlimited = unlimited;
   given_up = given;
   clean = λ clean. (finds (given_clean g given clean)).honest;
   kept = λ clean one other leave image may.

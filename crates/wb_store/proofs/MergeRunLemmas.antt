@@ -74,13 +74,14 @@ module _ (old new : State) where
   other_savepoints_stay false others marks has = marks ∙ has
   other_savepoints_stay true others marks has = (has.0, marks ∙ has.1)
 
-  goes_on_unchanged : IsUnchanged old new → GoesOn old new
-  goes_on_unchanged same = record {
+  goes_on_unchanged : IsUnchanged old new → new.step_limit ≡ old.step_limit → GoesOn old new
+  goes_on_unchanged same limit = record {
     was_open = same.0.was_open;
     is_open = same.0.is_open;
     committed = same.0.committed_is;
     inside = λ inside. subst IsTrue (sym same.0.mode) inside;
     others = others_equal old.now new.now same.0.now_is;
+    limit = limit;
   }
 
   pub goes_on_becoming : {machine : Machine} {scratch : Scratch} → BecomesWith machine scratch old new → GoesOn old new
@@ -90,6 +91,7 @@ module _ (old new : State) where
     committed = made.shown.committed_is;
     inside = λ inside. subst IsTrue (sym made.shown.mode) refl;
     others = made.others;
+    limit = made.limit;
   }
 
   unchanged_holds : (is_saved : Bool) (tables : Tables) → IsUnchanged old new → HoldsTables is_saved tables old → HoldsTables is_saved tables new
@@ -171,7 +173,7 @@ module _ {S A : Type 0} (g : Ghosts S) (is_saved : Bool) (old new : Held S) wher
     looked_runs (Ok found) h = record {
       runs = λ clean merging.
           let same = h.same clean (has_office is_saved (state g old) merging) in
-          ((merging.0, unchanged_holds (state g old) (state g new) is_saved merging.0 same merging.1), inr (goes_on_unchanged (state g old) (state g new) same));
+          ((merging.0, unchanged_holds (state g old) (state g new) is_saved merging.0 same merging.1), inr (goes_on_unchanged (state g old) (state g new) same h.survives.limit));
       savepoints = λ clean merging others has. other_savepoints_stay (state g old) (state g new) is_saved others (h.same clean (has_office is_saved (state g old) merging)).2 has;
       survives = survives_merge g is_saved old new (λ db lacks merging. lacks (has_office is_saved (state g old) merging)) h.survives;
     }
@@ -199,7 +201,7 @@ module _ {S A : Type 0} (g : Ghosts S) (is_saved : Bool) (old new : Held S) wher
     listed_runs (Ok found) h = record {
       runs = λ clean merging.
           let same = h.same clean (has_office is_saved (state g old) merging) in
-          ((merging.0, unchanged_holds (state g old) (state g new) is_saved merging.0 same merging.1), inr (goes_on_unchanged (state g old) (state g new) same));
+          ((merging.0, unchanged_holds (state g old) (state g new) is_saved merging.0 same merging.1), inr (goes_on_unchanged (state g old) (state g new) same h.survives.limit));
       savepoints = λ clean merging others has. other_savepoints_stay (state g old) (state g new) is_saved others (h.same clean (has_office is_saved (state g old) merging)).2 has;
       survives = survives_merge g is_saved old new (λ db lacks merging. lacks (has_office is_saved (state g old) merging)) h.survives;
     }
@@ -351,18 +353,20 @@ module _ {S : Type 0} (g : Ghosts S) (old new : Held S) where
     };
   }
 
-  goes_on_showing : {db : Database} → Shows (state g old) (state g new) db (state g old).committed true → KeepsOthers (state g old).now db → GoesOn (state g old) (state g new)
-  goes_on_showing {db = db} shown others = record {
+  goes_on_showing : {db : Database} → Shows (state g old) (state g new) db (state g old).committed true → KeepsOthers (state g old).now db → new.step_limit ≡ old.step_limit
+      → GoesOn (state g old) (state g new)
+  goes_on_showing {db = db} shown others limit = record {
     was_open = shown.was_open;
     is_open = shown.is_open;
     committed = shown.committed_is;
     inside = λ inside. subst IsTrue (sym shown.mode) refl;
     others = others_still (state g new).now others shown.now_is;
+    limit = limit;
   }
 
-  went_back : (tables : Tables) (saved : Contents) → tables.saved ≡ Some saved → GoesBack (state g old) (state g new) → HoldsTables true tables (state g old)
+  went_back : (tables : Tables) (saved : Contents) → tables.saved ≡ Some saved → GoesBack (state g old) (state g new) → new.step_limit ≡ old.step_limit → HoldsTables true tables (state g old)
       → HoldsTables true (back_at saved tables) (state g new) × GoesOn (state g old) (state g new)
-  went_back tables saved is back h =
+  went_back tables saved is back limit h =
       let at : IsSavedWith saved (state g old) = subst (λ o. HasSavepoint true o (state g old)) is h.saved in
       let made = back at.front at.was at.newest in (
         record {
@@ -375,7 +379,7 @@ module _ {S : Type 0} (g : Ghosts S) (old new : Held S) where
             others = others_equal at.was (state g new).now made.shown.now_is;
           });
         },
-        goes_on_showing made.shown (others_back at.was (state g old).now at.others),
+        goes_on_showing made.shown (others_back at.was (state g old).now at.others) limit,
       )
 
   released : (tables : Tables) → Releases (state g old) (state g new) → HoldsTables true tables (state g old) → HoldsTables false (without_savepoint tables) (state g new)
@@ -414,7 +418,7 @@ module _ {S A : Type 0} (g : Ghosts S) (old new : Held S) where
   save_runs is_saved (Ok x) noted h = subst (λ b. RunsOn g false old b new) (sym noted) (record {
     runs = λ clean merging.
         let made = h.ok clean tt in
-        ((with_savepoint merging.0, saved_now g old new merging.0 false made merging.1), inr (goes_on_showing g old new made.shown (others_same (state g old).now)));
+        ((with_savepoint merging.0, saved_now g old new merging.0 false made merging.1), inr (goes_on_showing g old new made.shown (others_same (state g old).now) h.survives.limit));
     savepoints = λ clean merging others has.
         ((state g old).now, subst (λ (marks : List Savepoint). IsSavedAs marks (state g old).now (state g new)) has (h.ok clean tt).saved);
     survives = survives_merge g false old new (λ db lacks merging. lacks tt) h.survives;
@@ -423,14 +427,14 @@ module _ {S A : Type 0} (g : Ghosts S) (old new : Held S) where
   pub back_holds : (r : Result A StoreFault) → CallsPart g back_text IsAny GoesBack old new r → HasCleanDisk (state g new) → (tables : Tables) (saved : Contents) → HoldsTables true tables (state g old)
       → tables.saved ≡ Some saved → OnOk r (HoldsTables true (back_at saved tables) (state g new))
   back_holds (Err fault) h clean tables saved holds is = tt
-  back_holds (Ok x) h clean tables saved holds is = (went_back g old new tables saved is (h.ok clean tt) holds).0
+  back_holds (Ok x) h clean tables saved holds is = (went_back g old new tables saved is (h.ok clean tt) h.survives.limit holds).0
 
   pub back_runs : (r : Result A StoreFault) → CallsPart g back_text IsAny GoesBack old new r → OnOk r (RunsOn g true old true new)
   back_runs (Err fault) h = tt
   back_runs (Ok x) h = record {
     runs = λ clean merging.
         let at = some_saved (state g old) merging in
-        let made = went_back g old new merging.0 at.0 at.1 (h.ok clean tt) merging.1 in
+        let made = went_back g old new merging.0 at.0 at.1 (h.ok clean tt) h.survives.limit merging.1 in
         ((back_at at.0 merging.0, made.0), inr made.1);
     savepoints = λ clean merging others has. other_savepoints_stay (state g old) (state g new) true others (h.ok clean tt others has.0 has.1).marks has;
     survives = survives_merge g true old new (λ db lacks merging. lacks tt) h.survives;
@@ -452,7 +456,7 @@ module _ {S A : Type 0} (g : Ghosts S) (old new : Held S) where
   release_runs is_saved (Ok x) noted h = subst (λ b. RunsOn g true old b new) (sym noted) (record {
     runs = λ clean merging.
         let made = h.ok clean (needs_saved g old new merging) in
-        ((without_savepoint merging.0, released g old new merging.0 made merging.1), inr (goes_on_showing g old new made.shown (others_same (state g old).now)));
+        ((without_savepoint merging.0, released g old new merging.0 made merging.1), inr (goes_on_showing g old new made.shown (others_same (state g old).now) h.survives.limit));
     savepoints = λ clean merging others has. (h.ok clean (needs_saved g old new merging)).marks others has.0 has.1;
     survives = survives_merge g true old new (λ db lacks merging. lacks (needs_saved g old new merging)) h.survives;
   })

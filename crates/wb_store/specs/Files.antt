@@ -1,5 +1,5 @@
 -- An office over two files, the database and its log: what is found in them, and why they are not opened or closed.
-use Rattle.std.specs.Prelude.{◌≡◌, ◌⊎◌, [], Err}
+use Rattle.std.specs.Prelude.{◌≡◌, ◌⊎◌, [], Err, None}
 use Rattle.sqlite_disk.specs.declared.Disk.{Ghosts}
 use Rattle.sqlite_disk.specs.declared.Files.{Files}
 use Rattle.sqlite_store.specs.declared.store.FileStore.{FileStore}
@@ -67,10 +67,12 @@ pub record AreGivenUp {D : Type 0} {g : Ghosts D} (conn : Held (FileStore D g)) 
   pub clean : AreClean g back.log back.db → HasCleanDisk (file_state at)
   pub left : AreClean g back.log back.db → LeaveOnly g back (file_state at).may_leave
 
--- the files were opened, the office was refused, and the files were handed back: they keep the office, and an empty one if no database was made in them
+-- the files were opened, without a limit of steps, the office was refused, and the files were handed back: they keep the office, and an empty one if no database was made
+-- in them
 pub record AreRefusedOver {D : Type 0} (g : Ghosts D) (files : Files D) (fault : StoreFault) (back : Files D) : Type 0 where
   pub conn : Held (FileStore D g)
   pub opened : IsOver g files conn
+  pub unlimited : conn.step_limit ≡ None
   pub given_up : AreGivenUp conn fault back
   pub clean : AreClean g back.log back.db → AreClean g files.log files.db
   pub kept : AreClean g back.log back.db → KeepOffice g files back

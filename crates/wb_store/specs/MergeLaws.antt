@@ -54,6 +54,7 @@ goes_on_then a b c one two = record {
   committed = two.committed ∙ one.committed;
   inside = λ inside. two.inside (one.inside inside);
   others = others_then a.now b.now c.now one.others two.others;
+  limit = two.limit ∙ one.limit;
 }
 
 module _ {S : Type 0} (g : Ghosts S) where

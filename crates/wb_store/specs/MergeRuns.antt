@@ -64,13 +64,14 @@ HoldsSome db = (now : Contents) × HoldsContents now db
 
 -- ---- calls that succeeded
 
--- a connection goes on in its transaction: it was open and is, what was committed stays, and the tables of others keep their rows
+-- a connection goes on in its transaction: it was open and is, what was committed stays, and so does the limit of steps, and the tables of others keep their rows
 pub record GoesOn (old new : State) : Type 0 where
   pub was_open : IsTrue old.is_open
   pub is_open : IsTrue new.is_open
   pub committed : new.committed ≡ old.committed
   pub inside : IsTrue old.in_transaction → IsTrue new.in_transaction
   pub others : KeepsOthers old.now new.now
+  pub limit : new.step_limit ≡ old.step_limit
 
 -- nothing was asked of the connection yet, or it went on in its transaction
 abbrev pub RunsTo : {S : Type 0} → Ghosts S → Held S → Held S → Type 0

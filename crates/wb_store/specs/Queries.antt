@@ -171,7 +171,7 @@ IsForOne query = (query ≡ OneSource) ⊎ ((query ≡ OneBinary) ⊎ (query ≡
 -- that failed is this one statement, with as many parameters as are given. Which queries a command runs is not named:
 -- every look-up and loop would carry the list, and it would refuse no body but one that asks more than it needs. The
 -- states between have the limit of steps that the connection has, so no query is said to be interrupted where there is
--- no limit.
+-- no limit; and a connection that was opened over files has none (`AreRefusedOver`).
 
 -- over each schema that has the table, the text asks this, and has as many parameters as are given
 abbrev pub IsTextOfQuery : OfficeQuery → List ℕ → Type 0
