@@ -135,11 +135,13 @@ of_either {P} {Q} {one} {other} so found = ∥∥₁_map found (λ which. let r 
 
 module _ {D : Type 0} (g : Ghosts D) where
   -- an office that was opened over the files
-  pub open_over : (files : Files D) (office : Office (FileStore D g)) → office.is_closed ≡ false → (HasCleanFiles office → AreClean g files.log files.db)
+  pub open_over : (files : Files D) (office : Office (FileStore D g)) → office.is_closed ≡ false → office.store.step_limit ≡ None
+      → (HasCleanFiles office → AreClean g files.log files.db)
       → (HasCleanFiles office → (one other : Machine) → LeaveOffice g files one other → IsEither (IsAt office) one other)
       → (HasCleanFiles office → AreNew g files → IsAt office empty_office) → IsOpenOver g files office
-  open_over files office opened clean left new = record {
+  open_over files office opened unlimited clean left new = record {
     opened = opened;
+    unlimited = unlimited;
     clean = clean;
     stands = λ is. opened_at_one g files IsAt office (left is) (new is);
   }
@@ -203,6 +205,7 @@ module _ {D : Type 0} (g : Ghosts D) where
     office = found.lives.office;
     over = record {
       opened = found.still ∙ over.opened;
+      unlimited = found.limit ∙ over.unlimited;
       clean = λ is. over.clean (found.clean is);
       stands = λ is one other hold. of_either {P = IsAt opened} {Q = IsAt found.shown} (λ machine at. (found.rows_are is machine at).1) (over.stands (found.clean is) one other hold);
     };

@@ -1,5 +1,5 @@
 -- What the files of an office hold before and after lives of it.
-use Rattle.std.specs.Prelude.{◌≡◌, ◌⊎◌, ⊤, ℕ, false, List, Option, Result, map, IfErr, IfOk}
+use Rattle.std.specs.Prelude.{◌≡◌, ◌⊎◌, ⊤, ℕ, false, List, None, Option, Result, map, IfErr, IfOk}
 use Rattle.std.proofs.Common.{inl, inr}
 use Rattle.std.specs.Result.{result_ok}
 use Rattle.sqlite_disk.specs.declared.Disk.{Ghosts}
@@ -89,9 +89,10 @@ Ends g office commands outcomes machine = EndsLife IsAt HasLeftOne machine comma
 abbrev pub IsEither : (Machine → Type 0) → Machine → Machine → Type 0
 IsEither IsSo one other = ∥ (IsSo one ⊎ IsSo other) ∥₁
 
--- an office that answers commands, over these files: it stands at one of the two states that they hold
+-- an office that answers commands, over these files: it stands at one of the two states that they hold, and its connection has no limit of steps
 pub record IsOpenOver {D : Type 0} (g : Ghosts D) (files : Files D) (office : Office (FileStore D g)) : Type 0 where
   pub opened : IsOpenOffice office
+  pub unlimited : office.store.step_limit ≡ None
   pub clean : HasCleanFiles office → AreClean g files.log files.db
   pub stands : HasCleanFiles office → (one other : Machine) → HoldOne g files one other → IsEither (IsAt office) one other
 
@@ -133,6 +134,7 @@ pub record LivesFound {D : Type 0} (g : Ghosts D) (opened : Office (FileStore D 
     (given : Result (Files D) (RefusedFiles D)) : Type 0 where
   pub shown : Office (FileStore D g)
   pub still : shown.is_closed ≡ opened.is_closed
+  pub limit : shown.store.step_limit ≡ opened.store.step_limit
   pub clean : HasCleanFiles shown → HasCleanFiles opened
   pub rows_are : HasCleanFiles shown → (machine : Machine) → IsAt opened machine → (map row_of rows ≡ table_rows machine no_merge) × IsAt shown machine
   pub count : (machine : Machine) → HasCleanFiles opened → IsAt opened machine → accepted ≡ machine.accepted

@@ -7,6 +7,7 @@ returns-in-Ok-clause-lived g c =
     record {
       shown = c.rows.new.self;
       still = shows.kept.0;
+      limit = shows.survives.limit;
       clean = shows.clean;
       rows_are = λ is machine at. shows.shows is c.requires.opened machine at;
       count = c.accepted_count-accepted.ensures.value;
