@@ -21,6 +21,8 @@ WAIT = 60  # seconds for one answer
 FREE = ("Memory", "Closed", "Store")  # the refusals that may come in place of any other
 REPORTS = ["built", "built", "uploaded", "uploaded", "uploaded", "attempted", "waits", "put-back"]
 WORDS = {"queue": "queue", "state": "state", "item": "item", "mine": "mine", "depends": "depends", "summary": "summary"}
+WHOLE = ("office", "archs", "builders")  # the queries without a key
+WORDS |= {name: name for name in WHOLE}
 
 
 @dataclass
@@ -207,11 +209,11 @@ class Porter(Client):
         self.command("report", arch=named["arch"], text=text + ("malformed\n" if self.chance.random() < 0.1 else ""))
 
     def look(self, named: dict[str, str]) -> None:
-        name = self.chance.choice(("summary", "item", "queue", "state"))
+        name = self.chance.choice(("summary", "item", "queue", "state", "office", "archs", "builders"))
         words = {"item": [named["source"]], "state": [self.chance.choice(["Building", "Needs-Build", "Dep-Wait"])]}.get(
             name, []
         )
-        self.query(name, named["arch"], *words)
+        self.query(name, *([] if name in WHOLE else [named["arch"], *words]))
 
 
 # ---- clients that mean no good
@@ -390,3 +392,5 @@ def first_queries(client: Client, office: Soaked) -> None:
         client.query("queue", arch)
     for builder in ("b1", "b2", "b3"):
         client.query("mine", builder)
+    for name in ("office", "archs", "builders"):
+        client.query(name)

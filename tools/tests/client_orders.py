@@ -27,7 +27,8 @@ RELATIONS = ["libz", "debhelper (>= 13)", "liba (>= 2), libb", "gcc-13 | clang",
 TEXTS = ["", "no space left", 'a "b" \\ \t\n g\u00fcltig', "x" * 1000, "x" * 1001]
 REPORTS = ["built", "built", "uploaded", "uploaded", "attempted", "waits", "put-back"]
 OPERATIONS = ["give-back"] * 4 + ["take", "take", "dep-wait", "fail", "not-for-us", "rebuild", "build-priority"]
-CHECKED = ("summary", "queue", "state", "item", "mine", "depends")
+CHECKED = ("summary", "queue", "state", "item", "mine", "depends", "office", "archs", "builders")
+WHOLE = ("office", "archs", "builders")  # the queries without a key
 
 
 # ---- the office at its beginning
@@ -163,9 +164,11 @@ class Client:
         if number < 0.84:
             lines = [f"{name} {of} {pick.choice(['installable', 'uninstallable no cc'])}" for name, of in SOURCES]
             return "report", {"arch": arch, "text": "\n".join(pick.sample(lines, 3) + ["odd"] * (pick.random() < 0.1))}
+        if number < 0.85:
+            return "add-builder", {"name": f"b{pick.randrange(6, 10)}", "arch": pick.choice(ARCHS)}
         word = pick.choice(CHECKED)
         words = {"state": [pick.choice(STATES)], "item": [source], "depends": [source]}.get(word, [])
-        return word, [builder if word == "mine" else arch, *words]
+        return word, [] if word in WHOLE else [builder if word == "mine" else arch, *words]
 
     def with_texts(self, name, body):
         """The body with the further keys that a command of this name needs."""
@@ -190,20 +193,22 @@ async def under_load(port, count, clients, seed, stop=None):
 
 
 class Looked:
-    """What a serving office shows by queries: how many commands it accepted, and all records."""
+    """What a serving office shows by queries: how many commands it accepted, all records, and whom it knows."""
 
     def __init__(self, server):
         def found(*parts):
             return json.loads(server.ask("GET", "/".join(["/v1", *parts]))[1])
 
         self.accepted = found("summary", ARCHS[0])["accepted"]
-        self.found = {(arch, state): found("state", arch, state) for arch in ARCHS for state in STATES}
+        asked = [("state", arch, state) for arch in ARCHS for state in STATES] + [("archs",), ("builders",)]
+        self.found = {parts: found(*parts) for parts in asked}
 
     def differences(self, office):
+        wanted = {(name, *parts): office.query(name, parts, None)[1] for name, *parts in self.found}
         found = [
-            f"{arch} {state}: {met} in place of {office.query('state', [arch, state], None)[1]}"
-            for (arch, state), met in self.found.items()
-            if met != office.query("state", [arch, state], None)[1]
+            f"{' '.join(parts)}: {met} in place of {wanted[parts]}"
+            for parts, met in self.found.items()
+            if met != wanted[parts]
         ]
         return found + ([f"{self.accepted} accepted"] if self.accepted != office.accepted else [])
 

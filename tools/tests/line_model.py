@@ -43,6 +43,7 @@ ARGUMENTS = {
 NUMBERS = {"take", "number", "value", "after"}
 QUERIES = {
     "queue": "queue", "summary": "summary", "by-state": "state", "item": "item", "depends": "depends", "mine": "mine",
+    "office": "office", "archs": "archs", "builders": "builders",
 }
 
 

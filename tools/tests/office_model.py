@@ -501,6 +501,18 @@ class Office:
             "counts": {state: len(self.of_state(arch, state)) for state in STATES},
         }
 
+    def query_office(self):
+        return {"accepted": self.accepted, "handed": self.handed}
+
+    def query_archs(self):
+        found = sorted(self.archs.values(), key=lambda arch: arch[0].encode())
+        return {"accepted": self.accepted, "archs": [dict(zip(("arch", "os", "cpu"), arch)) for arch in found]}
+
+    def query_builders(self):
+        pairs = sorted((name.encode(), arch.encode()) for name, archs in self.builders.items() for arch in archs)
+        found = [{"arch": arch.decode(), "builder": name.decode()} for name, arch in pairs]
+        return {"accepted": self.accepted, "builders": found}
+
 
 def assignment(record):
     return {key: getattr(record, key) for key in ("arch", "build", "message", "number", "source", "take", "version")}

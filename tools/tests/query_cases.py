@@ -63,6 +63,9 @@ QUERIES = [
     ("summary amd64", "summary/amd64", 200, counts(4, Building=1)),
     ("summary armhf", "summary/armhf", 404, refused(1, "UnknownArch")),
     ("summary AMD64", "summary/AMD64", 422, BAD_NAME),
+    ("office", "office", 200, '{"accepted":4,"handed":1}'),
+    ("archs", "archs", 200, '{"accepted":4,"archs":[{"arch":"amd64","cpu":"amd64","os":"linux"}]}'),
+    ("builders", "builders", 200, '{"accepted":4,"builders":[{"arch":"amd64","builder":"b1"}]}'),
 ]
 
 # Reports in a row after the first three lines: the architecture, the text, the status over HTTP, the answer, and what

@@ -47,7 +47,7 @@ class Line:
     @property
     def is_command(self):
         """Whether it is accepted."""
-        return self.first.startswith('{"accepted":') and "counts" not in self.first and '"ok":"again"' not in self.first
+        return '"ok":' in self.first and '"ok":"again"' not in self.first
 
 
 @dataclass(frozen=True)
@@ -561,6 +561,9 @@ def query(line, answer):
     return refused(line, answer)
 
 
+KNOWN_ARCHS = as_json(accepted=8, archs=[dict(arch=name, cpu=name, os="linux") for name in ARCHS])
+KNOWN_BUILDERS = as_json(accepted=8, builders=[dict(arch=arch, builder=name) for name, arch in BUILDERS])
+
 QUERIES = {
     "item": query("item amd64 tar", shown(*TAR, **TAKEN)),
     "mine": query("mine b1", MINE_OF_TAR),
@@ -568,6 +571,9 @@ QUERIES = {
     "by-state": query("by-state amd64 Needs-Build", as_json(arch="amd64", records=[item(*HELLO)], state="Needs-Build")),
     "depends": query("depends amd64 tar", as_json(arch="amd64", depends="", source="tar")),
     "summary": query("summary amd64", summary(8, Building=1, Needs_Build=1)),
+    "office": query("office", as_json(accepted=8, handed=1)),
+    "archs": query("archs", KNOWN_ARCHS),
+    "builders": query("builders", KNOWN_BUILDERS),
     "unknown-source": query("item amd64 zlib", UNKNOWN_SOURCE),
 }
 
@@ -670,6 +676,8 @@ REQUESTS = {
     "get-mine": asking("mine/b1", MINE_OF_TAR),
     "get-item": asking("item/amd64/t%61r", shown(*TAR, **TAKEN)),
     "get-queue": asking("queue/arm64", as_json(arch="arm64", queue=[{"build": "1.0", "source": "hello"}])),
+    "get-archs": asking("archs", KNOWN_ARCHS),
+    "get-builders": asking("builders", KNOWN_BUILDERS),
     "get-no-source": asking("item/amd64/g%2b%2b", UNKNOWN_SOURCE, 404),
     "get-no-route": asking("frob", as_json(http="NoRoute"), 404, takes=False),
 }

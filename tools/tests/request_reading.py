@@ -76,7 +76,7 @@ FORMS = {
     "report": {"arch": str, "text": str},
 }
 QUERIES = {
-    "item": 2, "mine": 1, "queue": 1, "state": 2, "depends": 2, "summary": 1,
+    "item": 2, "mine": 1, "queue": 1, "state": 2, "depends": 2, "summary": 1, "office": 0, "archs": 0, "builders": 0,
 }  # how many parts the path has after this word
 FAULTS = {
     "HeadTooLarge": 431, "BadHead": 400, "NoRoute": 404, "WrongMethod": 405, "BadPath": 400, "NotSupported": 501,
@@ -307,6 +307,6 @@ def query_of(found):
     """The word of the path whose query this object answers."""
     keys = {
         "waits": "item", "builder": "mine", "queue": "queue", "records": "state", "depends": "depends",
-        "counts": "summary",
+        "counts": "summary", "handed": "office", "archs": "archs", "builders": "builders",
     }
     return next((word for key, word in keys.items() if key in found), "nothing")

@@ -23,6 +23,7 @@ import threading
 import urllib.parse
 
 import request_cases as by_hand
+import request_queries
 from harness import SEED, Failure, expect, main, trial_program
 from request_reading import BODY_LIMIT, FAULTS, FORMS, HEAD_LIMIT, PHRASES, QUERIES, judge
 from office_model import ADDED, ARCHS, HELD, MOVES, PRIORITIES, RELATIONS, STATES, STATUSES, Office, Record
@@ -188,6 +189,7 @@ class Maker:
             "state": [record.arch, pick.choice(STATES)],
         }
         parts |= {"queue": [record.arch], "depends": [record.arch, record.source], "summary": [record.arch]}
+        parts |= {"office": [], "archs": [], "builders": []}
         word = pick.choice([*QUERIES, "item", "mine"])
         quote = pick.choice([urllib.parse.quote, str])
         return "/".join([word, *map(quote, parts[word])])
@@ -500,8 +502,8 @@ def answers_each_number():
 def answers_each_query():
     """Queries of an office in which nothing happened yet, and of one with records in each state."""
     return (
-        f"{answered_as_stated(changing_nothing(by_hand.QUERIES), 100_000)}; "
-        f"{answered_as_stated(by_hand.STATES_AND_QUERIES, 100_000)}"
+        f"{answered_as_stated(changing_nothing(request_queries.QUERIES), 100_000)}; "
+        f"{answered_as_stated(request_queries.STATES_AND_QUERIES, 100_000)}"
     )
 
 

@@ -679,7 +679,9 @@ def asks_with_the_words_of_each_query(folder):
     are."""
     answers_of(folder, query_cases.FIVE)
     for line in [query for query, _, status, _ in query_cases.QUERIES if status == 200] + ["report amd64 none"]:
-        for words in (line.split()[:-1], [*line.split(), "more"], [*line.split()[:-1], "-x"]):
+        given = line.split()
+        fewer = [given[:-1], [*given[:-1], "-x"]] if len(given) > 1 else [[*given, "-x"]]
+        for words in ([*given, "more"], *fewer):
             status, said = run(folder, [" ".join(words)])
             expect((status, said) == (2, b'{"fault":"line"}\n'), f"{words}: {status}, {said}")
             status, said, more = started(folder, "--store", "store", *words)

@@ -80,6 +80,9 @@ LINES = [
     "depends armhf new",
     "summary amd64",
     "summary armhf",
+    "office",
+    "archs",
+    "builders",
 ]
 
 # The words of each subcommand, as they are accepted as words.
@@ -108,13 +111,19 @@ GOOD = {
     "item": ["amd64", "hello"],
     "depends": ["amd64", "hello"],
     "mine": ["b1"],
+    "office": [],
+    "archs": [],
+    "builders": [],
 }
 
 # Of these the last argument takes several words.
 SEVERAL = ["waits", "attempted", "dep-wait", "fail", "not-for-us", "rebuild", "merge"]
 
+NUMBER_ALONE = ["built", "uploaded", "put-back"]
+WITHOUT_WORDS = ["office", "archs", "builders"]
 QUERIES = [
     "queue amd64", "summary amd64", "by-state amd64 Building", "item amd64 hello", "depends amd64 hello", "mine b1",
+    *WITHOUT_WORDS,
 ]
 REFUSED = ["queue armhf", "by-state amd64 none", "item amd64 bash", "mine b9", "mine .b"]
 
@@ -222,7 +231,8 @@ def refuses_before_the_store_is_opened(folder):
         ["--nothing", "queue", "amd64"],
     ]
     for name, given in GOOD.items():
-        cases += [[name], [name, *given[:-1]], [name, *given, "-x"], [name, "--store", "store", *given]]
+        cases += [[name], [name, *given[:-1]]] * bool(given)
+        cases += [[name, *given, "-x"], [name, "--store", "store", *given]]
         if name not in SEVERAL:
             cases.append([name, *given, "more"])
     cases += [
@@ -472,7 +482,7 @@ def names_refused_words_at_a_terminal(folder):
     wanted = f'wb: enter: SOURCE is "x", and has to be {SOURCE}\nwb: summary: ARCH is "all", and has to be {ARCH}\n'
     expect(said == wanted, f"lines: {said!r}")
     left_out = set(GOOD) - {given[0] for given, *_ in REFUSED_WORDS}
-    expect(left_out == {"built", "uploaded", "put-back"}, f"no refused word of {left_out}")  # these have a number alone
+    expect(left_out == {*NUMBER_ALONE, *WITHOUT_WORDS}, f"no refused word of {left_out}")
     return f"{len(REFUSED_WORDS)} refusals"
 
 
