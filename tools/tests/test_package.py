@@ -296,7 +296,9 @@ def completion_has_states_of_wb_table(_folder):
     url = ["--url", "http", ":", "//127.0.0.1", ":", "8080"]
     states = ["BD-Uninstallable", "Build-Attempted", "Building", "Built"]
     expect(completed("wb-table", *url, "by-state", "amd64", "B") == states, "no state is offered after wb-table")
-    expect(completed("wb-table", *url, "by-state", "") == [], "something is offered for an architecture")
+    for words in (["by-state", ""], ["archs", ""], ["mine", "b"]):
+        expect(completed("wb-table", *url, *words) == [], f"something is offered after {words}")
+    expect(completed("wb-table", *url, "a") == ["archs"], "the query of architectures is not offered")
 
 
 def completion_of_wanna_build(folder):

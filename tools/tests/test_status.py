@@ -116,6 +116,17 @@ TABLES = [
     ),
     (line(arch="amd64", depends="", source="aa"), "aa on amd64 needs nothing that is stated\n"),
     (line(arch="amd64", depends=None, source="aa"), "what aa on amd64 needs cannot be read\n"),
+    (line(accepted=12345, handed=7), "the office\nCOMMANDS ACCEPTED  12,345\nLAST TAKE NUMBER   7\n"),
+    (
+        line(accepted=2, archs=[{"arch": "amd64", "cpu": "amd64", "os": "linux"},
+                                {"arch": "armhf", "cpu": "arm", "os": "linux"}]),
+        "the office has 2 architectures\nARCH   OS     CPU\namd64  linux  amd64\narmhf  linux  arm\n",
+    ),
+    (line(accepted=0, archs=[]), "the office has no architectures\n"),
+    (
+        line(accepted=3, builders=[{"arch": "amd64", "builder": "b1"}, {"arch": "armhf", "builder": "b1"}]),
+        "the office has one builder\nBUILDER  ARCH\nb1       amd64\nb1       armhf\n",
+    ),
     (
         line(accepted=7, arch="amd64", counts=counts(Needs_Build=2, Installed=12345))
         + line(accepted=7, arch="arm64", counts=counts(Not_For_Us=1)),
@@ -134,7 +145,8 @@ PLAIN = [
     ("source,version,note", "aa\t1.0\tno space\nbb\t1.0\t\n"),
 ]
 PLAIN += [("take,arch", "9\tamd64\n10\tarm64\n"), ("holder,earlier,build_priority", "\ttrue\t-5\n")]
-PLACES = [0, 2, 3, 4]
+PLAIN += [("arch,os,cpu", "amd64\tlinux\tamd64\narmhf\tlinux\tarm\n"), ("builder,arch", "b1\tamd64\nb1\tarmhf\n")]
+PLACES = [0, 2, 3, 4, 9, 11]
 
 
 def shows_each_answer(folder):
@@ -295,11 +307,12 @@ def takes_the_words_that_it_says(folder):
             call(folder, name, *words, status=2, message="usage:")
     url = "http://127.0.0.1:1"
     for words in (
-        [], ["run"], ["queue"], ["item", "amd64"], ["by-state", "amd64", "Failed", "x"], ["mine", "b1", "b2"],
+        [], ["run"], ["item", "amd64"], ["by-state", "amd64", "Failed", "x"], ["depends"], ["archs", "amd64"],
+        ["office", "x"],
     ):
         call(folder, "wb-table", "--url", url, *words, status=2, message="usage:")
     for words in (
-        ["--url", url], ["--queries"], ["--url", url, "--arch", "amd64", "file"], ["--arch", "all"], ["--rows", "0"],
+        ["--queries"], ["--url", url, "--arch", "amd64", "file"], ["--arch", "all"], ["--rows", "0"],
         ["--first", "-1"],
     ):
         call(folder, "wb-status", *words, status=2, message="usage:")
@@ -644,6 +657,7 @@ def says_what_an_office_did_not_answer(folder):
         ((200, b"<html>"), 1, "summary amd64: this is no JSON"),
         ((200, b'{"accepted":1,"ok":"next"}'), 1, "summary amd64: this is the answer to a command"),
         ((200, b'{"arch":"amd64"}'), 1, "summary amd64: this is no answer to a query"),
+        ((404, b'{"http":"NoRoute"}'), 1, 'summary amd64: the office answers {"http":"NoRoute"}'),
     ]
     for answer, status, message in wrong:
         with StandIn({"/v1/summary/amd64": answer}) as office:

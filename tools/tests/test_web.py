@@ -361,7 +361,7 @@ def takes_the_settings_that_it_says(folder):
     good = settings(folder, 8080)
     wrong = [
         {"SUITES": ""}, {"SUITES": "sid"}, {"SUITES": "sid=x"}, {"SUITES": "sid=1 sid=2"}, {"ARCHS": "sid=all"},
-        {"ARCHS": ""}, {"ARCHS": "sid=amd64 old=amd64"}, {"PORT": "0"}, {"WAIT": "x"}, {"LOG": "{source"},
+        {"ARCHS": "sid=,"}, {"ARCHS": "sid=amd64 old=amd64"}, {"PORT": "0"}, {"WAIT": "x"}, {"LOG": "{source"},
         {"LOG": "https://x/{0}"}, {"LOG": "https://x/{source.__class__}"}, {"TRACKER": "javascript:alert(1)"},
         {"BUGS": "https://x/{arch}"}, {"LOG": "https://x/{source!r}"}, {"WHAT": "1"},
     ]

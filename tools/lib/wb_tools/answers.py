@@ -37,7 +37,11 @@ QUERIES = {
     "mine": (("BUILDER",), "mine"),
     "depends": (("ARCH", "SOURCE"), "depends"),
     "summary": (("ARCH",), "summary"),
+    "office": ((), "office"),
+    "archs": ((), "archs"),
+    "builders": ((), "builders"),
 }
+WHOLE = ("office", "archs", "builders")  # what is asked of the whole office, and what an older one does not know
 
 
 # ---- what is answered
@@ -45,6 +49,10 @@ QUERIES = {
 
 class UnknownArch(Refused):
     """An office answers that it does not have the architecture."""
+
+
+class NoRoute(Refused):
+    """A program answers that it does not know the request."""
 
 
 @dataclass(frozen=True, slots=True)
@@ -109,13 +117,51 @@ class Summary:
     counts: dict[str, int]
 
 
-Answer = Queue | ByState | Record | Mine | Depends | Summary
+@dataclass(frozen=True, slots=True)
+class Counts:
+    """How many commands an office accepted, and the last take number that it gave; the answer to `office`."""
+
+    accepted: int
+    handed: int
+
+
+@dataclass(frozen=True, slots=True)
+class KnownArch:
+    """An architecture of an office, with the words of its processor and its operating system."""
+
+    arch: str
+    cpu: str
+    os: str
+
+
+@dataclass(frozen=True, slots=True)
+class Archs:
+    accepted: int
+    archs: list[KnownArch]
+
+
+@dataclass(frozen=True, slots=True)
+class KnownBuilder:
+    """A builder of an office, and an architecture for which it may build."""
+
+    arch: str
+    builder: str
+
+
+@dataclass(frozen=True, slots=True)
+class Builders:
+    accepted: int
+    builders: list[KnownBuilder]
+
+
+Answer = Queue | ByState | Record | Mine | Depends | Summary | Counts | Archs | Builders
 
 # The kind of each key; a record's `take` and `holder` and the `depends` of a source package may be null.
 KINDS: Mapping[str, type] = {
-    "accepted": int, "build_priority": int, "counts": dict, "earlier": bool, "number": int, "queue": list,
-    "records": list,
+    "accepted": int, "archs": list, "build_priority": int, "builders": list, "counts": dict, "earlier": bool,
+    "handed": int, "number": int, "queue": list, "records": list,
 }
+INNER: Mapping[str, type] = {"queue": Waiting, "records": Record, "archs": KnownArch, "builders": KnownBuilder}
 MAY_BE_NULL = {"depends": str, "holder": str, "take": int}
 
 
@@ -134,8 +180,7 @@ def made(kind: type[Any], found: object) -> Any:
     keys = kind.__dataclass_fields__
     if not isinstance(found, dict) or not all(key in found and is_of_kind(key, found[key]) for key in keys):
         raise Refused("this is no answer to a query")
-    inner = {"queue": Waiting, "records": Record}
-    return kind(**{key: [made(inner[key], one) for one in found[key]] if key in inner else found[key] for key in keys})
+    return kind(**{key: [made(INNER[key], one) for one in found[key]] if key in INNER else found[key] for key in keys})
 
 
 def answer_in(found: object) -> Answer | None:
@@ -145,11 +190,13 @@ def answer_in(found: object) -> Answer | None:
         raise Refused("this is no object of JSON")
     for key in ("refused", "fault", "http"):
         if key in found:
-            kind = UnknownArch if found[key] == "UnknownArch" else Refused
+            kinds = {"UnknownArch": UnknownArch, "NoRoute": NoRoute}
+            kind = kinds.get(found[key], Refused) if isinstance(found[key], str) else Refused
             raise kind("the office answers " + text_of(found))
     if "ok" in found:
         return None
     marks = {"queue": Queue, "counts": Summary, "depends": Depends, "builder": Mine, "records": ByState}
+    marks |= {"handed": Counts, "archs": Archs, "builders": Builders}
     kind = next((kind for key, kind in marks.items() if key in found), Record)
     return made(kind, found)  # type: ignore[no-any-return]
 
@@ -263,9 +310,12 @@ def body_in_time(url: str, path: str, wait: float) -> bytes:
 def meaning_of(body: bytes, query: str, words: Sequence[str]) -> str:
     """What the refusal of a query means, to stand after its name; empty if the name says it, or there is none."""
     try:
-        refused = json.loads(body.decode())["refused"]
-    except (ValueError, RecursionError, KeyError, TypeError):
+        found = json.loads(body.decode())
+        refused = "NoRoute" if found.get("http") == "NoRoute" else found["refused"]
+    except (ValueError, RecursionError, KeyError, TypeError, AttributeError):
         return ""
+    if refused == "NoRoute":
+        return f"; it is older than the query {query}, which wb 0.1.0 has" if query in WHOLE else ""
     if refused == "BadName" and query == "by-state" and words[1] not in STATES:
         return f"; there is no state {words[1]!r}, and the states are {', '.join(STATES)}"
     meanings = {
@@ -292,6 +342,22 @@ def ask(url: str, query: str, words: Sequence[str], wait: float = 0) -> Answer:
     if answer is None:
         raise Refused(f"{url}, {asked}: this is the answer to a command")
     return answer
+
+
+def archs_of(url: str, wait: float = 0) -> list[str]:
+    """The architectures of a serving office, by name; NoRoute if it is older than this query."""
+    answer = ask(url, "archs", [], wait)
+    if not isinstance(answer, Archs):
+        raise Refused(f"{url}, archs: this is no answer to archs")
+    return [one.arch for one in answer.archs]
+
+
+def builders_of(url: str, wait: float = 0) -> list[str]:
+    """The builders of a serving office, by name; NoRoute if it is older than this query."""
+    answer = ask(url, "builders", [], wait)
+    if not isinstance(answer, Builders):
+        raise Refused(f"{url}, builders: this is no answer to builders")
+    return list(dict.fromkeys(one.builder for one in answer.builders))
 
 
 # ---- texts

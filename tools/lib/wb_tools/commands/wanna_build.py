@@ -21,7 +21,7 @@ from wb_tools.wanna_build.by_name import ByName, Order, cut, order_of
 from wb_tools.wanna_build.changes import arch_of, read_changes, suite_of
 from wb_tools.wanna_build.forced import read_words
 from wb_tools.wanna_build.listing import check_format, check_order, formatted, ordered
-from wb_tools.wanna_build.office import NoAnswer, Office, Record, Refusal, held_by, is_of
+from wb_tools.wanna_build.office import NoAnswer, NotKnown, Office, Record, Refusal, held_by, is_of
 from wb_tools.wanna_build.reports import Reports, reason_of, take_of, tried
 from wb_tools.wanna_build.settings import (
     DONE, FILE, NOT_SENT, REFUSED, WRONG_WORDS, Fault, Settings, caller, read_settings,
@@ -79,7 +79,7 @@ what buildd, buildd-mail, buildd-uploader and the hook say, and no word of porte
 
 settings, lines of KEY=VALUE with a value with a blank in quotes, in {FILE} or FILE:
   SUITES   the port of 127.0.0.1 on which the office of each suite serves, as "sid=8080 experimental=8081" (required)
-  ARCH     the architecture, if --arch is not given
+  ARCH     the architecture, if --arch is not given; without both that of an office which has one
   ALL      the office's architecture for builds of `all`, which buildd names `all`    indep
   STATE    the file of what is held and owed, of its caller alone; its folder is made ~/wanna-build.state
   LOG      the file of reports that were owed, or refused later                       ~/wanna-build.log
@@ -158,7 +158,7 @@ class WannaBuild:
         if action == "forget-user":
             return self.forget_users()
         if not self.arch:
-            raise Fault("--arch is missing, and the settings have none", WRONG_WORDS)
+            self.arch = self.only_arch()
         if not is_arch_name(self.arch):
             raise Fault(f"{self.arch!r} is no architecture", WRONG_WORDS)
         if action in OF_ONE_SUITE and not BUILDER.fullmatch(self.builder):
@@ -173,6 +173,26 @@ class WannaBuild:
             return self.take()
         self.text()  # no lock is held while it is read
         return self.each(self.say)
+
+    def only_arch(self) -> str:
+        """The architecture of an office that has one, besides that of builds of `all`."""
+
+        def once() -> list[Record] | Refusal | NotKnown:
+            try:
+                return self.office.archs()
+            except NotKnown as why:
+                return why
+
+        said = tried(self.settings.try_for, once)
+        if isinstance(said, NotKnown):
+            raise Fault(f"--arch is missing, and the settings have none; {said}", WRONG_WORDS)
+        names = [one["arch"] for one in told(said)]
+        found = [name for name in names if name != self.settings.all_arch]
+        if len(found) != 1:
+            has = ", ".join(names) or "no architecture"
+            raise Fault(f"--arch is missing, and the settings have none: the office has {has}", WRONG_WORDS)
+        only: str = found[0]
+        return only
 
     def each(self, step: Callable[[str, str], str]) -> int:
         """Takes a step for each package, which answers why it was refused, if it was. Once an office was waited for in

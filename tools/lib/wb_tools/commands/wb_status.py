@@ -13,7 +13,8 @@ from pathlib import Path
 
 from wb_tools import outlive_readers
 from wb_tools.answers import (
-    DONE, FAILED, REFUSED, Answer, ByState, Queue, Summary, UnknownArch, add_wait_option, ask, read_lines, suite_url,
+    DONE, FAILED, REFUSED, Answer, ByState, NoRoute, Queue, Summary, UnknownArch, add_wait_option, archs_of, ask,
+    read_lines, suite_url,
 )
 from wb_tools.index.asking import Index
 from wb_tools.index.reading import read_whole
@@ -27,8 +28,9 @@ and as numbers, the head of the queue, who builds what, what waits for what, wha
 with its note. The page loads nothing and can be read on a phone. Its one script says how old the page is, and says it
 in red once it is older than --due MINUTES.
 
-With --url a serving office on this machine is asked. With several, each after its suite, one page shows the offices of
-all these suites; an architecture that one of them does not have is left out there. Else the answers are read from
+With --url a serving office on this machine is asked, also which architectures it has, unless --arch names some. With
+several, each after its suite, one page shows the offices of all these suites; an architecture that one of them does not
+have is left out there. Else the answers are read from
 files, or from standard input if none is named or `-` is; --queries prints the lines to which they are the answers. The
 last answer to a query counts. An architecture without a `summary` is not shown.
 
@@ -36,9 +38,9 @@ The queries are asked one after another, and the office may go on between them. 
 --journal, the file that `wb serve --journal FILE` writes, the page also shows since when each package is built, or was
 reported as built or uploaded, and how many were built on each day since the first line. A line of the journal that
 cannot be read is reported on standard error and left out."""
-EXAMPLE = """  tools/bin/wb-status --url http://127.0.0.1:8080 --arch amd64 --arch arm64 --to /var/www/html/status.html
+EXAMPLE = """  tools/bin/wb-status --url http://127.0.0.1:8080 --to /var/www/html/status.html
   tools/bin/wb-status --url http://127.0.0.1:8080 --arch amd64 --journal journal --to status.html
-  tools/bin/wb-status --url sid=http://127.0.0.1:8080 --url experimental=http://127.0.0.1:8081 --arch amd64 \\
+  tools/bin/wb-status --url sid=http://127.0.0.1:8080 --url experimental=http://127.0.0.1:8081 \\
       --journal sid=office.journal --journal experimental=experimental/office.journal --to status.html
   tools/bin/wb-status --arch amd64 --queries | wb --store office.db run | tools/bin/wb-status --to status.html"""
 STATUSES = """Status: 0 if the page was made; 1 if an answer is a refusal or a fault, or cannot be read, and 2 if the
@@ -52,7 +54,7 @@ on standard error. After all but 0 no page was put in place."""
 def asked(url: str, words: argparse.Namespace) -> Iterator[Answer]:
     """What a serving office answers; the packages in a state are asked for only if there are some. Of several offices
     one may lack an architecture."""
-    for arch in words.arch:
+    for arch in words.arch or known_archs(url, words.wait):
         try:
             summary = ask(url, "summary", [arch], words.wait)
         except UnknownArch:
@@ -64,6 +66,17 @@ def asked(url: str, words: argparse.Namespace) -> Iterator[Answer]:
         for state in LISTED:
             if isinstance(summary, Summary) and summary.counts.get(state):
                 yield ask(url, "by-state", [arch, state], words.wait)
+
+
+def known_archs(url: str, wait: float) -> list[str]:
+    """The architectures of an office, of which it has to have one."""
+    try:
+        names = archs_of(url, wait)
+    except NoRoute as why:
+        raise Refused(f"{why}; for this one name each architecture by --arch") from None
+    if not names:
+        raise Refused(f"{url}: the office has no architecture")
+    return names
 
 
 def read(words: argparse.Namespace) -> Iterator[Answer]:
@@ -151,7 +164,7 @@ def parser_of_words() -> argparse.ArgumentParser:
     add_wait_option(parser)
     parser.add_argument(
         "--arch", metavar="ARCH", type=arch_word, action="append", default=[],
-        help="an architecture; may be given several times",
+        help="an architecture; may be given several times; with --url, if none is given, all that the office has",
     )
     parser.add_argument(
         "--queries", action="store_true", help="print the queries to whose answers the page is made, and make none"
@@ -201,7 +214,7 @@ def read_words() -> argparse.Namespace:
     """The words of a call, which fit together."""
     parser = parser_of_words()
     words = parser.parse_args()
-    if (words.url or words.queries) and not words.arch:
+    if words.queries and not words.arch:
         parser.error("give --arch")
     if words.url and words.answers:
         parser.error("give --url or files of answers")

@@ -8,24 +8,27 @@ from collections.abc import Iterable, Iterator, Sequence
 
 from wb_tools import outlive_readers
 from wb_tools.answers import (
-    DONE, FAILED, QUERIES, REFUSED, STATES, Answer, ByState, Depends, Mine, Queue, Record, Summary, add_url_options,
-    ask, counted, printable, read_lines,
+    DONE, FAILED, QUERIES, REFUSED, STATES, Answer, Archs, Builders, ByState, Counts, Depends, KnownArch, KnownBuilder,
+    Mine, Queue, Record, Summary, add_url_options, archs_of, ask, builders_of, counted, printable, read_lines,
 )
 from wb_tools.columns import GAP, MESSAGE, NAME, REASON, WHOLE, Column, beside, lines_of
 from wb_tools.lists import Refused, parser_of, say
 
 PROGRAM = "wb-table"
-DESCRIPTION = """Shows answers of an office as aligned tables: to `queue`, `by-state`, `item`, `mine`, `depends` and
-`summary`. They are read from files of answers, or from standard input if none is named or `-` is; with --url the words
-are a query, which a serving office on this machine is asked. `summary` and `queue` take several architectures then;
-summaries in a row are one table.
+DESCRIPTION = """Shows answers of an office as aligned tables: to `queue`, `by-state`, `item`, `mine`, `depends`,
+`summary`, `office`, `archs` and `builders`. They are read from files of answers, or from standard input if none is
+named or `-` is; with --url the words are a query, which a serving office on this machine is asked. `summary` and
+`queue` take several architectures then, and `mine` several builders; without any, all that the office has. Summaries in
+a row are one table.
 
-For scripts --plain prints some keys of each package alone, as they are in the answers, with a tab between two, or the
-text of --join: with `_` they are the packages of wanna-build. Columns that say nothing in any row are left out. In a
-terminal a table that is too wide leaves out what orders the queue: section, priority, whether it was built before; if
-that is not enough, long texts are cut, and end in `...` then, the reason after the others. Elsewhere, and with --wide,
-all is whole. What is not printed is written as in JSON. Answers to commands are passed over."""
+For scripts --plain prints some keys of each package, architecture or builder alone, as they are in the answers, with a
+tab between two, or the text of --join: with `_` they are the packages of wanna-build. Columns that say nothing in any
+row are left out. In a terminal a table that is too wide leaves out what orders the queue: section, priority, whether it
+was built before; if that is not enough, long texts are cut, and end in `...` then, the reason after the others.
+Elsewhere, and with --wide, all is whole. What is not printed is written as in JSON. Answers to commands are passed
+over."""
 EXAMPLE = """  wb --store office.db by-state amd64 Failed | tools/bin/wb-table
+  tools/bin/wb-table --url http://127.0.0.1:8080 summary
   tools/bin/wb-table --url http://127.0.0.1:8080 summary amd64 arm64
   tools/bin/wb-table --url http://127.0.0.1:8080 --first 20 queue amd64
   wb --store office.db by-state amd64 Dep-Wait | tools/bin/wb-table --plain source,version
@@ -131,6 +134,31 @@ def summary_lines(answers: Sequence[Summary], words: argparse.Namespace) -> Iter
         yield from lines_of(part, 0)
 
 
+def counts_lines(answer: Counts) -> Iterator[str]:
+    yield "the office"
+    yield f"COMMANDS ACCEPTED{GAP}{answer.accepted:,}"
+    yield f"LAST TAKE NUMBER {GAP}{answer.handed:,}"
+
+
+def archs_lines(answer: Archs, words: argparse.Namespace) -> Iterator[str]:
+    columns = [
+        Column(head, [printable(getattr(one, key)) for one in answer.archs], kind=kind)
+        for head, key, kind in (("ARCH", "arch", NAME), ("OS", "os", WHOLE), ("CPU", "cpu", WHOLE))
+    ]
+    title = f"the office has {counted(len(answer.archs), 'architecture')}"
+    yield from table_of(title, len(answer.archs), columns, words)
+
+
+def builders_lines(answer: Builders, words: argparse.Namespace) -> Iterator[str]:
+    """A row for each builder and each architecture for which it may build."""
+    columns = [
+        Column(head, [printable(getattr(one, key)) for one in answer.builders], kind=NAME)
+        for head, key in (("BUILDER", "builder"), ("ARCH", "arch"))
+    ]
+    title = f"the office has {counted(len({one.builder for one in answer.builders}), 'builder')}"
+    yield from table_of(title, len(answer.builders), columns, words)
+
+
 def blocks_of(answers: Iterable[Answer], words: argparse.Namespace) -> Iterator[Iterator[str]]:
     """The lines of each table; summaries in a row are one."""
     summaries: list[Summary] = []
@@ -149,6 +177,12 @@ def blocks_of(answers: Iterable[Answer], words: argparse.Namespace) -> Iterator[
             yield mine_lines(answer, words)
         elif isinstance(answer, Depends):
             yield depends_lines(answer, words)
+        elif isinstance(answer, Counts):
+            yield counts_lines(answer)
+        elif isinstance(answer, Archs):
+            yield archs_lines(answer, words)
+        elif isinstance(answer, Builders):
+            yield builders_lines(answer, words)
         else:
             yield item_lines(answer, words)
     if summaries:
@@ -156,6 +190,9 @@ def blocks_of(answers: Iterable[Answer], words: argparse.Namespace) -> Iterator[
 
 
 # ---- where answers come from
+
+# The queries of which one call asks several, and who has the names if the call has none.
+OF_EACH = {"queue": archs_of, "summary": archs_of, "mine": builders_of}
 
 
 class Answers:
@@ -177,14 +214,19 @@ class Answers:
 
     def asked(self) -> Iterator[Answer | Refused | None]:
         query, *words = self.words.words
-        for one in [[word] for word in words] if query in ("queue", "summary") else [words]:
-            try:
-                yield ask(self.words.url, query, one, self.words.wait)
-            except Refused as why:
-                yield why
-            except OSError as why:
-                self.fail(f"{why.filename}: {why.strerror}", FAILED)
-                return
+        url, wait = self.words.url, self.words.wait
+        try:
+            if query in OF_EACH and not words:
+                words = OF_EACH[query](url, wait)
+            for one in [[word] for word in words] if query in OF_EACH else [words]:
+                try:
+                    yield ask(url, query, one, wait)
+                except Refused as why:
+                    yield why
+        except Refused as why:
+            yield why
+        except OSError as why:
+            self.fail(f"{why.filename}: {why.strerror}", FAILED)
 
     def read(self) -> Iterator[Answer | Refused | None]:
         for name in self.words.words or ["-"]:
@@ -195,15 +237,16 @@ class Answers:
                 self.fail(f"{name}: {why.strerror}", FAILED)
 
 
+LISTS = ("queue", "records", "archs", "builders")  # what answers list
+
+
 def plain_lines(answer: Answer, keys: Sequence[str], between: str) -> Iterator[str]:
     """The values of these keys of each package of an answer, with a text between two. No text can end a line, nor a
     column of tabs, and null is no text."""
     packages = (
         [answer]
         if isinstance(answer, Record)
-        else answer.queue
-        if isinstance(answer, Queue)
-        else getattr(answer, "records", None)
+        else next((found for name in LISTS if (found := getattr(answer, name, None)) is not None), None)
     )
     if packages is None or not all(hasattr(package, key) for package in packages for key in keys):
         raise Refused(f"there is an answer whose packages do not have {','.join(keys)}")
@@ -243,10 +286,12 @@ def count_word(word: str) -> int:
 
 def keys_word(word: str) -> list[str]:
     keys = word.split(",")
-    unknown = [key for key in keys if key not in Record.__dataclass_fields__]
+    known = {key for kind in (Record, KnownArch, KnownBuilder) for key in kind.__dataclass_fields__}
+    unknown = [key for key in keys if key not in known]
     if unknown:
         raise argparse.ArgumentTypeError(
-            f"{unknown[0]!r} is no key of a record, which has {', '.join(Record.__dataclass_fields__)}"
+            f"{unknown[0]!r} is no key of a record, which has {', '.join(Record.__dataclass_fields__)}; architectures "
+            "have arch, cpu and os, and builders arch and builder"
         )
     return keys
 
@@ -272,9 +317,8 @@ def read_words() -> argparse.Namespace:
             parser.error(f"with --url the first word is a query: {', '.join(QUERIES)}")
         query, given = words.words[0], len(words.words) - 1
         names = QUERIES[query][0]
-        is_many = query in ("queue", "summary") and given > 1
-        if given != len(names) and not is_many:
-            parser.error(f"{query} takes {' '.join(names)}")
+        if given != len(names) and query not in OF_EACH:
+            parser.error(f"{query} takes {' '.join(names) or 'no words'}")
     return words
 
 

@@ -27,6 +27,10 @@ class NoAnswer(Exception):
     """There is no answer, or none that says what became of the request: it is to be sent again."""
 
 
+class NotKnown(NoAnswer):
+    """What serves does not know the request: it is no office, or an older one."""
+
+
 class NotSent(NoAnswer):
     """No connection was made: the office did not get the request."""
 
@@ -97,7 +101,7 @@ class Office:
     def judged(self, said: Record, asked: str) -> Record | Refusal:
         fault = said.get("http")
         if fault in OTHER:
-            raise NoAnswer(f"what serves on port {self.port} does not know {asked}: is it an office, and new enough?")
+            raise NotKnown(f"what serves on port {self.port} does not know {asked}: is it an office, and new enough?")
         if fault in BROKEN or said.get("refused") in TRANSIENT:
             raise NoAnswer(f"the office on port {self.port} answered {fault or said['refused']}")
         if fault or "refused" in said:
@@ -119,6 +123,9 @@ class Office:
 
     def mine(self, builder: str) -> list[Record] | Refusal:
         return listed(self.get("mine", builder), "records")
+
+    def archs(self) -> list[Record] | Refusal:
+        return listed(self.get("archs"), "archs")
 
     def queue(self, arch: str) -> list[Record] | Refusal:
         return listed(self.get("queue", arch), "queue")

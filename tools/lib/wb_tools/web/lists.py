@@ -47,7 +47,10 @@ def state(visit: Visit, arch_name: str, name: str) -> Page:
     """The records of a state, with their places if it is the queue."""
     page: Page = {"template": "state.html", "title": f"{name} on {arch_name}", "arch": arch_name, "state": name}
     page |= {"q": visit.args.get("q", ""), "suite": None, "suites": [], "records": None}
-    having = [suite for suite in visit.settings.suites if arch_name in visit.known(suite).archs]
+    having = []
+    for one in visit.settings.suites:
+        with visit.of(one):
+            having += [one] if arch_name in visit.known(one).archs else []
     suite = next((one for one in having if one in visit.suites()), None)
     if suite and name in STATES:
         page |= {"suite": suite.name, "suites": [one.name for one in having] if visit.is_of_several else []}

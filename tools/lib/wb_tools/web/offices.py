@@ -1,11 +1,11 @@
 """Asks offices for a page of the site, within the time that the page has."""
+import functools
 import http.client
 import json
 import time
-from dataclasses import dataclass
 from typing import Any
 
-from wb_tools.answers import STATES, Record, body_of, made, path_of
+from wb_tools.answers import STATES, WHOLE, Record, body_of, made, path_of
 from wb_tools.lists import Refused
 from wb_tools.web.settings import Suite
 
@@ -20,12 +20,34 @@ class Fault(Exception):
         self.status = status
 
 
-@dataclass(frozen=True)
 class Known:
-    """What an office has been told of: its architectures and its builders."""
+    """What an office has been told of: its architectures and its builders. It is asked for them, once for a page,
+    unless the settings name them."""
 
-    archs: tuple[str, ...]
-    builders: tuple[str, ...]
+    def __init__(self, asker: "Asker", suite: Suite) -> None:
+        self.asker, self.suite = asker, suite
+        why = "the office is older than wb 0.1.0, and does not say its architectures: name them in ARCHS"
+        self.is_older = Fault(suite, ODD, why)
+
+    @functools.cached_property
+    def archs(self) -> tuple[str, ...]:
+        found = self.suite.archs or self.named("archs", "arch")
+        if found is None:
+            raise self.is_older
+        return found
+
+    @functools.cached_property
+    def builders(self) -> tuple[str, ...]:
+        """An older office does not say its builders: those of which the journal has a word are shown then."""
+        return self.suite.builders or self.named("builders", "builder") or ()
+
+    def named(self, query: str, key: str) -> tuple[str, ...] | None:
+        """The names that an office answers, or none if it does not know the query."""
+        found = self.asker.ask(self.suite, query)
+        names = found and [one.get(key) for one in found[query]]
+        if names and not all(isinstance(name, str) for name in names):
+            raise Fault(self.suite, ODD, f"this is no answer of an office to {query}")
+        return None if names is None else tuple(dict.fromkeys(names))
 
 
 class Asker:
@@ -34,13 +56,14 @@ class Asker:
     def __init__(self, wait: float) -> None:
         self.wait, self.end = wait, time.monotonic() + wait
         self.faults: dict[str, Fault] = {}
+        self.offices: dict[str, Known] = {}
 
     def known(self, suite: Suite) -> Known:
-        """The architectures and builders of an office, which the settings name."""
-        return Known(suite.archs, suite.builders)
+        """The architectures and builders of an office."""
+        return self.offices.setdefault(suite.name, Known(self, suite))
 
     def ask(self, suite: Suite, query: str, *words: str) -> dict[str, Any] | None:
-        """The object that an office answers to a query, or none if it refuses it."""
+        """The object that an office answers to a query, or none if it refuses it, or is too old to know it."""
         if suite.name in self.faults:
             raise self.faults[suite.name]
         try:
@@ -61,6 +84,8 @@ class Asker:
             raise Fault(suite, STOPPED, f"the office does not answer: {why.strerror or why}") from None
         except (http.client.HTTPException, ValueError, RecursionError):
             raise Fault(suite, ODD, f"this is no answer of an office to {query}") from None
+        if query in WHOLE and isinstance(found, dict) and found.get("http") == "NoRoute":
+            return None
         if not isinstance(found, dict) or "fault" in found or "http" in found:
             raise Fault(suite, ODD, f"the office answers {json.dumps(found)[:200]} to {query}")
         if found.get("refused") in ("Memory", "Store", "Closed"):
@@ -69,7 +94,8 @@ class Asker:
 
     def checked(self, suite: Suite, query: str, found: dict[str, Any]) -> dict[str, Any]:
         """An answer that has what a page shows of it; the records of a long list are checked once they are shown."""
-        lists, texts = {"queue": "queue", "by-state": "records", "mine": "records"}, {"depends": "depends"}
+        lists = {"queue": "queue", "by-state": "records", "mine": "records", "archs": "archs", "builders": "builders"}
+        texts = {"depends": "depends"}
         key = lists.get(query)
         counts = found.get("counts")
         is_good = not key or isinstance(found.get(key), list) and all(type(one) is dict for one in found[key])

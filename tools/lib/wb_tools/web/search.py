@@ -39,9 +39,10 @@ def in_pages(visit: Visit, caption: str, rows: list[Row], total: int, size: int)
     """The table of what was found, in the order in which it was found."""
     columns = [PACKAGE]
     for suite in visit.suites():
-        for arch in visit.known(suite).archs:
-            head = f"{suite.name} {arch}" if visit.is_of_several else arch
-            columns.append(Column(f"{suite.name}/{arch}", head, "place"))
+        with visit.of(suite):
+            for arch in visit.known(suite).archs:
+                head = f"{suite.name} {arch}" if visit.is_of_several else arch
+                columns.append(Column(f"{suite.name}/{arch}", head, "place"))
     if any(row["note"] for row in rows):
         columns.append(Column("note", "Text", "note"))
     order = order_of({"page": visit.args.get("page", "1")}, columns, "")

@@ -13,12 +13,12 @@ from wb_tools.suites import NAME
 
 @dataclass(frozen=True)
 class Suite:
-    """An office: its suite, its address, its architectures and builders, and the index of its journal, if there is
-    one."""
+    """An office: its suite, its address, the architectures and builders that are shown, all if none is named, and the
+    index of its journal, if there is one."""
 
     name: str
     url: str
-    archs: tuple[str, ...]
+    archs: tuple[str, ...] = ()
     builders: tuple[str, ...] = ()
     index: Path | None = None
 
@@ -126,7 +126,7 @@ def suite_of(file: Path, name: str, several: dict[str, dict[str, str]]) -> Suite
     if unknown:
         raise Refused(f"{file}: SUITES does not name {sorted(unknown)[0]}")
     archs = tuple(filter(None, several["archs"].get(name, "").split(",")))
-    if not archs or not all(map(is_arch_name, archs)):
+    if not all(map(is_arch_name, archs)) or (name in several["archs"] and not archs):
         raise Refused(f"{file}: ARCHS has no architectures of {name}, such as ARCHS=\"{name}=amd64,arm64\"")
     try:
         port = number_in(65535)(several["suites"][name])

@@ -106,8 +106,9 @@ class Visit:
 
     def ask_accepted(self, suite: Suite) -> None:
         """Compares an office with its index."""
-        if suite.index is not None:
-            found = self.ask(suite, "summary", self.known(suite).archs[0])
+        archs = self.known(suite).archs if suite.index is not None else ()
+        if archs:
+            found = self.ask(suite, "summary", archs[0])
             if found:
                 self.mind_lag(suite, found["accepted"])
 
