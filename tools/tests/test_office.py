@@ -114,18 +114,20 @@ def refuses_wrong_settings(folder):
     expect("examples:" in call([OFFICE, "--help"])[0], "help has no example")
 
 
-def backs_up_only_what_stands_still(folder):
+def backs_up_what_is_served_or_stands_still(folder):
+    """A backup stops nothing while the office is served; --stop does. What a run by hand has is not copied."""
     with Trial(folder) as office:
         office.fill()
         office.do("start")
-        _, said = office.do("backup", wanted=1)
-        expect("--stop" in said and not office.saved(), f"a backup while it runs: {said}")
         keeper = office.keeper()
+        first = Path(office.do("backup")[0].strip())
+        expect(office.runs() and office.keeper() == keeper, "the service was stopped")
         saved = Path(office.do("backup", "--stop")[0].strip())
         expect(office.runs() and office.keeper() != keeper, "the service was not stopped, or not started again")
-        expect(office.saved() == [saved] and (saved / "office.db").exists(), f"there are {office.saved()}")
-        expect(not (saved / "trial").exists(), "the trial is left in the backup")
-        call(["sha256sum", "--check", "--strict", "SHA256SUMS"], cwd=saved)
+        expect(office.saved() == [first, saved], f"there are {office.saved()}")
+        for one in (first, saved):
+            expect((one / "office.db").exists() and not (one / "trial").exists(), "the trial is left in the backup")
+            call(["sha256sum", "--check", "--strict", "SHA256SUMS"], cwd=one)
         office.do("stop")
         # a run by hand has the file
         with subprocess.Popen(
@@ -138,7 +140,7 @@ def backs_up_only_what_stands_still(folder):
                 _, said = office.do(*words, wanted=1)
                 expect("has " in said and "open" in said, f"{words[0]} beside a run: {said}")
             run.stdin.close()
-        expect(office.saved() == [saved], "a backup was made while a run had the file")
+        expect(office.saved() == [first, saved], "a backup was made while a run had the file")
 
 
 def backs_up_the_log_after_a_kill(folder):
@@ -700,7 +702,7 @@ def works_as_the_owner_of_its_files(folder):
 
 
 TESTS = [
-    starts_once_and_stops, dry_run_changes_nothing, refuses_wrong_settings, backs_up_only_what_stands_still,
+    starts_once_and_stops, dry_run_changes_nothing, refuses_wrong_settings, backs_up_what_is_served_or_stands_still,
     backs_up_the_log_after_a_kill, keeps_no_copy_that_does_not_open, keeps_no_half_copy_on_a_full_disk,
     restores_and_keeps_what_was_there, restores_no_backup_that_changed,
     does_not_start_half_restored, merges, merges_several_in_one_stop,

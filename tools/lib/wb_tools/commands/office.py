@@ -119,10 +119,10 @@ def parser() -> argparse.ArgumentParser:
     below.add_parser("start", help="start the service, and wait until it answers")
     below.add_parser("stop", help="stop the service by SIGTERM, and wait for its end")
     below.add_parser("status", help="show whether it runs and answers, its files and its last backup")
-    backup = below.add_parser("backup", help="copy both files, once the service does not run, and open the copy")
+    backup = below.add_parser("backup", help="copy both files, also while the service runs, and open the copy")
     how = backup.add_mutually_exclusive_group()
-    how.add_argument("--stop", action="store_true", help="stop the service, and start it again afterwards")
-    how.add_argument("--snapshot", action="store_true", help="copy from a snapshot of the file system, without a stop")
+    how.add_argument("--stop", action="store_true", help="stop the service first, and start it again afterwards")
+    how.add_argument("--snapshot", action="store_true", help="copy from a snapshot of the file system")
     restore = below.add_parser("restore", help="put a backup in, and keep what is there")
     restore.add_argument("backup", metavar="BACKUP", help="the folder of a backup")
     restore.add_argument(

@@ -59,6 +59,20 @@ def copy_file(source: Path, target: Path) -> str:
     return digest.hexdigest()
 
 
+def sum_of(file: Path) -> str:
+    """The sum of the bytes of a file."""
+    digest = hashlib.sha256()
+    with open(file, "rb") as reader:
+        while part := reader.read(1 << 20):
+            digest.update(part)
+    return digest.hexdigest()
+
+
+def sync_file(file: Path) -> None:
+    with open(file, "rb") as handle:
+        os.fsync(handle.fileno())
+
+
 def write_sums(folder: Path, sums: dict[str, str]) -> None:
     with open(folder / SUMS, "x", encoding="ascii") as writer:
         writer.writelines(f"{digest}  {name}\n" for name, digest in sums.items())

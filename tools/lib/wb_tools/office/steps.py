@@ -15,6 +15,7 @@ from collections.abc import Iterator, Sequence
 from dataclasses import dataclass, field
 from pathlib import Path
 
+from wb_tools.office.copies import copy_written
 from wb_tools.office.files import (
     DATABASE, LOG, MAGIC, Files, beside, copy_file, is_locked, links_to_lists, read_sums,
     removed_after, removed_on_failure, sync_folder, write_sums,
@@ -197,12 +198,16 @@ class Office:
         names = (now if count == 1 else f"{now}-{count}" for count in range(1, 1000))
         return next(folder for name in names if not (folder := self.settings.backups / name).exists())
 
-    def copy_into(self, files: Files, folder: Path) -> None:
-        """Copies both files and their sums into a new folder."""
+    def copy_into(self, files: Files, folder: Path, is_written: bool) -> None:
+        """Copies both files and their sums into a new folder; those of an office that is served are written
+        meanwhile."""
         folder.mkdir()
-        sums = {DATABASE: copy_file(files.database, folder / DATABASE)}
-        if files.log.exists():
-            sums[LOG] = copy_file(files.log, folder / LOG)
+        if is_written:
+            sums = copy_written(files, folder, tell)
+        else:
+            sums = {DATABASE: copy_file(files.database, folder / DATABASE)}
+            if files.log.exists():
+                sums[LOG] = copy_file(files.log, folder / LOG)
         write_sums(folder, sums)
         sync_folder(folder)
 
@@ -230,15 +235,16 @@ class Office:
         if free < wanted:
             raise Refusal(f"{folder} has {free} bytes free, and {wanted} are needed")
 
-    def copy_office(self, files: Files) -> Path:
+    def copy_office(self, files: Files, is_written: bool = False) -> Path:
         """Copies both files into a folder that has no name of a backup yet, and answers the folder."""
         if not files.database.exists():
             raise Refusal(f"{files.database} is not there")
         made = self.settings.backups / f".{self.fresh_folder().name}.{os.getpid()}.new"
-        if self.step(f"copy {files.database} and its log, {sum(files.sizes())} bytes, into {made}"):
+        while_served = ", while it is served" if is_written else ""
+        if self.step(f"copy {files.database} and its log, {sum(files.sizes())} bytes, into {made}{while_served}"):
             self.require_room(files, self.settings.backups, 2)
             with removed_on_failure(made):
-                self.copy_into(files, made)
+                self.copy_into(files, made, is_written)
         return made
 
     # Only the program can say whether two copied files are an office, and an opening writes: so it opens a copy of the
@@ -309,10 +315,7 @@ class Office:
                 made = self.copy_office(self.files)
             return self.name_copy(made)
         if self.service.runs():
-            raise Refusal(
-                "the service runs, and two copies that are made meanwhile may not fit together: say --stop, or "
-                "--snapshot"
-            )
+            return self.name_copy(self.copy_office(self.files, is_written=True))
         with self.closed_to_others():
             made = self.copy_office(self.files)
         return self.name_copy(made)
