@@ -129,6 +129,40 @@ def answers_random_lines_alike(folder):
             expect(len(one) == len(two), "there are more answers")
 
 
+def commands_answer_alike(folder):
+    """The commands that are one line: the same bytes and the same status whether the office is served or not, and
+    nothing is stopped; what no line can hold, and what has no request while it is served, is refused."""
+    idle, served = offices(folder)
+    (folder / "a report").write_text("tar 1.30 uninstallable libx is missing\n")
+    (folder / "large").write_text("\n" * (1 << 24))
+    report = ("report", "amd64", folder / "a report")
+    with idle, served:
+        process = served.server()
+        for wanted, words in [
+            (0, ("add-arch", "armhf", "linux", "arm")), (1, ("add-arch", "armhf", "linux", "arm")),
+            (0, ("add-builder", "b4", "armhf")), (1, ("add-builder", "b4", "none")),
+            (1, ("add-builder", "b/4", "armhf")), (1, ("add-builder", "--", "-b", "armhf")),
+            (0, ("enter", "armhf", "hello", "1.0", "optional", "devel")), (1, ("enter", "armhf", "x", "1", "a", "b")),
+            (0, report), (1, ("report", "none", folder / "a report")), (1, ("report", "amd64", idle.conf)),
+            (2, ("report", "amd64", folder / "nowhere")), (2, ("add-builder", "b 4", "armhf")),
+            (2, ("add-arch", "x", "", "y")), (2, ("add-builder", "b4")), (2, ("add-builder", "b4", "x", "y")),
+            (0, report),
+        ]:
+            one, two = (office.do(*words, wanted=wanted) for office in (idle, served))
+            expect(one[0] == two[0] and bool(one[0]) == (wanted < 2), f"{words}: {one} and {two}")
+            expect("stop the service" not in two[1], two[1])
+        expect(json.loads(one[0]) == {"accepted": 9, "changed": 0, "ok": "report"}, f"{one[0]}")
+        large = ("report", "amd64", folder / "large")
+        expect('"ok":"report"' in idle.do(*large)[0], "a large report by the file")
+        said, steps = served.do(*large, wanted=1)
+        expect(not said and "16777216 bytes; nothing was done: office run stops the service" in steps, steps)
+        _, steps = served.do("--dry-run", *report)
+        expect("would send 1 lines" in steps, steps)
+        _, steps = idle.do("--dry-run", "add-builder", "b9", "armhf")
+        expect("would give" in steps and "run: add-builder b9 armhf" in steps, steps)
+        expect(served.server() == process, "another process serves")
+
+
 def stops_nothing(folder):
     """The process stays for each command; a journal has them all."""
     journal = folder / "journal"
@@ -252,7 +286,7 @@ def goes_on_while_the_program_starts_anew(folder):
 
 
 TESTS = [
-    answers_alike, answers_random_lines_alike, stops_nothing, stops_for_what_has_no_request,
+    answers_alike, answers_random_lines_alike, commands_answer_alike, stops_nothing, stops_for_what_has_no_request,
     says_which_line_is_in_doubt, ends_where_the_office_is_stopped, says_where_a_signal_ended_it,
     goes_on_while_the_program_starts_anew,
 ]  # fmt: skip

@@ -18,6 +18,7 @@ from pathlib import Path
 from typing import Any, NoReturn
 
 from wb_tools import outlive_readers
+from wb_tools.office.lines import COMMANDS as OFFICE_COMMANDS
 from wb_tools.office.merges import read_merges, read_reports
 from wb_tools.office.prune import prune
 from wb_tools.office.settings import FAILED, Owner, Refusal, Settings, read_settings, tell
@@ -31,7 +32,9 @@ examples:
   %(prog)s merge --most-removed 100 Sources-0412 amd64=Packages-amd64-0412
   %(prog)s --suite experimental status
   %(prog)s merge Sources-amd64 amd64=Packages-amd64 Sources-armhf armhf=Packages-armhf
-  echo 'add-builder b1 amd64' | %(prog)s run
+  %(prog)s add-builder b1 amd64
+  %(prog)s report amd64 report-0412
+  %(prog)s run < lines
   %(prog)s restore --force /var/lib/wb/backups/2026-04-12T031500Z
 
 settings, lines of KEY=VALUE as systemd's EnvironmentFile has them, a value with a blank in quotes:
@@ -58,9 +61,18 @@ exit statuses:
   0  done; of status: the service runs and answers
   1  a step failed or was refused, or the office refused a line; the message says which
   2  the words or the settings are wrong; nothing was done
-  3  the service does not run; of merge, run and backup: it ran before and could not be started again; of run also: an
-     answer was lost, and the message names the line that is in doubt
+  3  the service does not run; of merge, run and backup: it ran before and could not be started again; of run, report,
+     enter and add-..: an answer was lost, and the message names the line that is in doubt
 """
+
+
+# Commands of the office that go to it without a stop while it is served.
+COMMANDS = {
+    "add-arch": "add an architecture, without a stop",
+    "add-builder": "let a builder build for an architecture, without a stop",
+    "enter": "put a source package that has no record into the queue, without a stop",
+    "report": "take in which source packages can be built now, without a stop",
+}
 
 
 # ---- words
@@ -130,6 +142,10 @@ def parser() -> argparse.ArgumentParser:
     )
     below.add_parser("prune", help="remove the backups that neither KEEP_BACKUPS nor KEEP_DAYS keeps")
     add_merge(below)
+    for name, about in COMMANDS.items():
+        command = below.add_parser(name, help=about)
+        for word in OFFICE_COMMANDS[name].split():
+            command.add_argument(word, metavar=word.upper())
     below.add_parser("run", help="give the office the lines of standard input, without a stop if none is a merge")
     below.add_parser("ready", help="end with 0 if there is an office that may be served; what the unit asks first")
     below.add_parser("keep", help="serve in the foreground, again and again, for those without systemd")
@@ -161,6 +177,8 @@ def act(office: Office, settings: Settings, words: argparse.Namespace) -> int:
         case "merge":
             merges = read_merges(words.lists)
             office.merge(merges, read_reports(words.report, merges), words.most_removed, words.looks)
+        case name if name in COMMANDS:
+            office.command([name, *(getattr(words, word) for word in OFFICE_COMMANDS[name].split())])
         case "run":
             office.run(sys.stdin.buffer.read())
     return office.status

@@ -11,6 +11,7 @@ from dataclasses import dataclass
 from typing import Any
 
 from wb_tools.answers import QUERIES, path_of
+from wb_tools.office.settings import WRONG_WORDS, Refusal
 
 MOST_LINE = 65536  # bytes of a line
 MOST_BODY = 16777216  # bytes of the body of a request
@@ -73,6 +74,20 @@ class Line:
 
     def __str__(self) -> str:
         return f"line {self.number} ({self.text[:100]})" if self.text.isprintable() else f"line {self.number}"
+
+
+def line_of(words: Sequence[str]) -> str:
+    """The line of these words, of which none may be empty or have a blank: a line has no quotes."""
+    for word in words:
+        if not word or re.search("[ \t\n]", word) or not is_text(word):
+            raise Refusal(f"{word[:100]!r} is no word of a line, which has no blanks", WRONG_WORDS)
+    marked = ["--"] if any(map(is_option, words)) else []
+    return " ".join([words[0], *marked, *words[1:]])
+
+
+def is_text(word: str) -> bool:
+    """Whether the shell gave UTF-8."""
+    return not any("\ud800" <= character <= "\udfff" for character in word)
 
 
 def read_lines(data: bytes) -> Iterator[Line]:

@@ -18,9 +18,9 @@ from pathlib import Path
 from wb_tools.office.copies import copy_written
 from wb_tools.office.files import (
     DATABASE, LOG, MAGIC, Files, beside, copy_file, is_locked, links_to_lists, read_sums,
-    removed_after, removed_on_failure, sync_folder, write_sums,
+    removed_after, removed_on_failure, sync_folder, word_for, write_sums,
 )
-from wb_tools.office.lines import Line, read_lines
+from wb_tools.office.lines import Line, line_of, read_lines
 from wb_tools.office.merges import (
     ANSWER, Merge, archs_of, ask_served, lines_of, look_at_lists, parts_of, report_parts,
 )
@@ -420,6 +420,28 @@ class Office:
         with self.stopped():
             if self.step(f"give {lines.count(10)} lines to {self.settings.program} --store {self.settings.store} run"):
                 self.give(lines)
+
+    def command(self, words: Sequence[str]) -> None:
+        """Gives the office one command, by a request while it is served, which stops nothing, and else by its file. Of
+        a report the last word is its file."""
+        self.require_ready()
+        with links_to_lists(self.dry) as links:
+            line = line_of(words[:-1] if words[0] == "report" else words)
+            if words[0] == "report":
+                line += f" {word_for(links, words[-1], 0)}"
+            if not self.service.runs():
+                if self.step(f"give {self.settings.program} --store {self.settings.store} run: {line}"):
+                    self.give(f"{line}\n".encode())
+                return
+            found = next(read_lines(line.encode()))
+            if not found.is_known:
+                raise Refusal(f"{found.why}; nothing was done: office run stops the service for such a line")
+            if not self.takes_lines():
+                raise Refusal(
+                    f"what serves on port {self.settings.port} takes no commands; nothing was done: office run stops "
+                    "the service for one"
+                )
+            self.send([found])
 
     def lines_to_send(self, lines: bytes) -> list[Line] | None:
         """The lines that are sent to the office; none if it is not served, or one of them needs the file."""
