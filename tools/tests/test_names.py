@@ -116,6 +116,33 @@ def takes_the_only_architecture(folder):
         net.refuses("does not know GET /v1/archs: is it an office, and new enough?", *words, user=None, wanted=2)
 
 
+def means_all_by_request_lines(folder):
+    """Without --arch ANY and ALL of request lines stand for what the office of the line's suite has, which is asked for
+    once; of an older one each has to be named, and of one that does not answer nothing is sent."""
+    def said(lines, *words, status=0, message=""):
+        return call(folder, "wb-requests", "--wait", "0", *words, said=lines.encode(), status=status, message=message)
+
+    waiting = {f"/v1/item/{arch}/aa": (200, line(**record("aa", "Failed", arch=arch))) for arch in (*ARCHS, "indep")}
+    of_three = {"/v1/archs": (200, line(accepted=1, archs=[
+        {"arch": one, "cpu": "x", "os": "linux"} for one in (*ARCHS, "indep")
+    ]))}
+    with StandIn(waiting | of_three) as office, StandIn() as older:
+        urls = ["--simulate", "--url", f"sid={office.url}", "--url", f"old={older.url}"]
+        # the second and the third line find what the first left
+        met = said("gb aa . ANY . sid\ngb aa . ALL . sid\ngb aa . ANY -arm64 . sid\n", *urls, status=1)
+        rows = [row.split()[:4] for row in met.splitlines()[1:-1]]
+        wanted = [["1", "gb", "sid", arch] for arch in ARCHS] + [["2", "gb", "sid", arch] for arch in (*ARCHS, "indep")]
+        expect(rows == [*wanted, ["3", "gb", "sid", "amd64"]], f"{rows}")
+        expect(office.asked.count("/v1/archs") == 1, f"{office.asked}")
+        alone = said("gb aa . ANY . sid\n", *urls, "--arch", "arm64")
+        expect([row.split()[3] for row in alone.splitlines()[1:-1]] == ["arm64"], alone)
+        older_said = "line 1: name each architecture by --arch: what serves on"
+        said("gb aa . ANY . old\n", *urls, status=2, message=older_said)
+        said("gb aa . ANY . none\n", *urls, status=2, message="no --url names the office of none")
+        said("gb aa . ANY\n", status=2, message="ANY stands for the architectures of the office: name each by --arch")
+    said("gb aa . ANY\n", "--url", office.url, status=3, message="nothing was sent")
+
+
 def shows_all_on_the_site(folder):
     """Without ARCHS and BUILDERS the site shows what the office has, each of them asked for once a page; with them what
     they name alone."""
@@ -145,7 +172,7 @@ def shows_all_on_the_site(folder):
 
 TESTS = [
     asks_the_office_for_names, says_that_an_office_is_older, asks_the_program_for_names, takes_the_only_architecture,
-    shows_all_on_the_site,
+    means_all_by_request_lines, shows_all_on_the_site,
 ]
 
 if __name__ == "__main__":

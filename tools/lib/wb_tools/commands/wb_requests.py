@@ -12,6 +12,7 @@ import shutil
 import sys
 import urllib.parse
 from collections.abc import Iterator, Sequence
+from functools import cache
 from pathlib import Path
 
 from wb_tools import outlive_readers
@@ -21,7 +22,7 @@ from wb_tools.lists import arch_word, parser_of, say
 from wb_tools.requests.commands import Order
 from wb_tools.requests.lines import Archs, Malformed, Request, read_requests
 from wb_tools.requests.sending import ABSENT, ACCEPTED, NO_ANSWER, NOT_SENT, REFUSED as ORDER_REFUSED, Desk, Row
-from wb_tools.wanna_build.office import Office
+from wb_tools.wanna_build.office import NoAnswer, NotKnown, Office, Refusal
 
 PROGRAM = "wb-requests"
 ANSWER = 40  # seconds: more than an office takes at most for one connection
@@ -40,7 +41,8 @@ source packages, architectures and perhaps a suite, with a dot between them:
 - `nmu` rebuilds, with a message; `gb` gives back; `dw` lets wait for relations; `bp` sets a build priority; `fail` and
   `nfu`, not for us, set aside, with a note.
 - ANY stands for each --arch but that of builds of `all`, which `all` names; ALL for each --arch; -i386 leaves one out.
-  If ANY or ALL stands for an architecture without the package, that is no fault.
+  Without --arch the office is asked which architectures it has. If ANY or ALL stands for an architecture without the
+  package, that is no fault.
 - A version may be left out: then it is that of the record. Without a number `nmu` takes the one after the greatest that
   the package has on the architectures of the line.
 - A package that a builder holds is left to it, unless -o stands in the line.
@@ -49,7 +51,7 @@ source packages, architectures and perhaps a suite, with a dot between them:
 All lines are read first: if one is malformed nothing is sent. With --simulate nothing is sent, and the table shows what
 would come of each line after those before it. Without --url no record is looked at: versions and the numbers of `nmu`
 have to stand in the lines, and the commands that are printed end the holds of builders."""
-EXAMPLE = """  tools/bin/wb-requests --url http://127.0.0.1:8080 --arch amd64 --arch arm64 --simulate requests
+EXAMPLE = """  tools/bin/wb-requests --url http://127.0.0.1:8080 --simulate requests
   tools/bin/wb-requests --url http://127.0.0.1:8080 --arch amd64 --arch arm64 requests
   echo 'gb hello_1.0-1 . armhf' | tools/bin/wb-requests --url http://127.0.0.1:8080
   tools/bin/wb-requests --url sid=http://127.0.0.1:8080 --url experimental=http://127.0.0.1:8081 requests
@@ -149,7 +151,7 @@ def read_words() -> argparse.Namespace:
     )
     parser.add_argument(
         "--arch", metavar="ARCH", type=arch_word, action="append", default=[],
-        help="an architecture for which ANY and ALL stand; several may be given",
+        help="an architecture for which ANY and ALL stand, else with --url each of the office; several may be given",
     )
     parser.add_argument(
         "--all", metavar="ARCH", type=arch_word, default="indep",
@@ -176,9 +178,43 @@ def with_office(found: Request | tuple[int, Malformed], words: argparse.Namespac
     """A request, if there is an office for it: that of its suite, or the only one if it names none."""
     if isinstance(found, tuple) or not words.offices or found.suite in words.offices:
         return found
-    if found.suite:
-        return found.line, Malformed(f"no --url names the office of {found.suite}, as --url {found.suite}=URL does")
-    return found.line, Malformed("it names no suite, and there are several --url")
+    return found.line, without_office(found.suite)
+
+
+def without_office(suite: str) -> Malformed:
+    """What is wrong with a line whose suite has no office."""
+    if suite:
+        return Malformed(f"no --url names the office of {suite}, as --url {suite}=URL does")
+    return Malformed("it names no suite, and there are several --url")
+
+
+def archs_of(words: argparse.Namespace) -> Archs:
+    """The architectures for which ANY and ALL stand; an office is asked for its own once, if a line needs them."""
+    desk = Desk(PROGRAM, words.offices, words.wait)
+
+    @cache
+    def known(suite: str) -> tuple[str, ...] | NotKnown:
+        def once() -> tuple[str, ...] | NotKnown:
+            try:
+                said = desk.offices[suite].archs()
+            except NotKnown as why:
+                return why
+            return () if isinstance(said, Refusal) else tuple(one["arch"] for one in said)
+
+        found: tuple[str, ...] | NotKnown = desk.in_time(once)
+        return found
+
+    def ask(suite: str) -> tuple[str, ...]:
+        if not words.offices:
+            return ()
+        if suite not in words.offices:
+            raise without_office(suite)
+        found = known(suite)
+        if isinstance(found, NotKnown):
+            raise Malformed(f"name each architecture by --arch: {found}")
+        return found
+
+    return Archs(tuple(words.arch), words.all, ask)
 
 
 def main() -> int:
@@ -188,9 +224,12 @@ def main() -> int:
     name = "standard input" if words.file == "-" else words.file
     try:
         with contextlib.nullcontext(sys.stdin.buffer) if words.file == "-" else Path(words.file).open("rb") as file:
-            found = [with_office(one, words) for one in read_requests(file, Archs(tuple(words.arch), words.all))]
+            found = [with_office(one, words) for one in read_requests(file, archs_of(words))]
     except OSError as why:
         say(PROGRAM, f"{name}: {why.strerror}")
+        return FAILED
+    except NoAnswer as why:
+        say(PROGRAM, f"{why}; nothing was sent")
         return FAILED
     requests = [one for one in found if isinstance(one, Request)]
     faults = [one for one in found if isinstance(one, tuple)]

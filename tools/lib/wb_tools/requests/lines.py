@@ -5,7 +5,7 @@ architectures, as the lines of Debian's release team do:
 """
 import re
 import shlex
-from collections.abc import Iterable, Iterator, Sequence
+from collections.abc import Callable, Iterable, Iterator, Sequence
 from dataclasses import dataclass
 
 from wb_tools.lists import compressor_of, is_arch_name, is_package_name, is_version
@@ -78,19 +78,21 @@ class Request:
 @dataclass(frozen=True)
 class Archs:
     """The architectures of the offices, for which ALL stands; ANY stands for all of them but that of builds of `all`,
-    which is meant by `all`."""
+    which is meant by `all`. If none is named, the office of a suite is asked, if it can be."""
 
     names: tuple[str, ...]
     of_all: str
+    ask: Callable[[str], Sequence[str]] = lambda suite: ()
 
-    def meant_by(self, words: Sequence[str]) -> dict[str, bool]:
+    def meant_by(self, words: Sequence[str], suite: str = "") -> dict[str, bool]:
         """The architectures that the words of a line mean, each with whether the line has its name."""
         found: dict[str, bool] = {}
         for word in words:
             if word in ("ANY", "ALL"):
-                if not self.names:
+                names = self.names or self.ask(suite)
+                if not names:
                     raise Malformed(f"{word} stands for the architectures of the office: name each by --arch")
-                some = (name for name in self.names if word == "ALL" or name != self.of_all)
+                some = (name for name in names if word == "ALL" or name != self.of_all)
                 found = {**dict.fromkeys(some, False), **found}
             elif not word.startswith("-"):
                 found[self.named(word)] = True
@@ -221,8 +223,9 @@ def request_of(number: int, line: str, archs: Archs) -> Request | None:
     packages = tuple(dict.fromkeys(map(package_of, parts.words[0])))
     if not packages:
         raise Malformed(f"the packages are missing: a line is {FORM}")
+    suite = suite_of(parts.words, parts.options)
     return Request(
-        number, word, packages, archs.meant_by(parts.words[1]), suite_of(parts.words, parts.options),
+        number, word, packages, archs.meant_by(parts.words[1], suite), suite,
         text_after(kind, word, parts.options), value, parts.ends_holds,
     )
 
