@@ -135,7 +135,8 @@ of_either {P} {Q} {one} {other} so found = ∥∥₁_map found (λ which. let r 
 
 module _ {D : Type 0} (g : Ghosts D) where
   -- an office that was opened over the files
-  pub open_over : (files : Files D) (office : Office (FileStore D g)) → office.is_closed ≡ false → office.store.step_limit ≡ None
+  pub open_over : (files : Files D) (office : Office (FileStore D g)) → office.is_closed ≡ false
+      → office.store.step_limit ≡ None
       → (HasCleanFiles office → AreClean g files.log files.db)
       → (HasCleanFiles office → (one other : Machine) → LeaveOffice g files one other → IsEither (IsAt office) one other)
       → (HasCleanFiles office → AreNew g files → IsAt office empty_office) → IsOpenOver g files office

@@ -89,7 +89,8 @@ Ends g office commands outcomes machine = EndsLife IsAt HasLeftOne machine comma
 abbrev pub IsEither : (Machine → Type 0) → Machine → Machine → Type 0
 IsEither IsSo one other = ∥ (IsSo one ⊎ IsSo other) ∥₁
 
--- an office that answers commands, over these files: it stands at one of the two states that they hold, and its connection has no limit of steps
+-- an office that answers commands, over these files: it stands at one of the two states that they hold, and its
+-- connection has no limit of steps
 pub record IsOpenOver {D : Type 0} (g : Ghosts D) (files : Files D) (office : Office (FileStore D g)) : Type 0 where
   pub opened : IsOpenOffice office
   pub unlimited : office.store.step_limit ≡ None

@@ -233,7 +233,8 @@ module _ {D : Type 0} (g : Ghosts D) {c : Held (FileStore D g)} {fault : StoreFa
 pub refused_over : {D : Type 0} (g : Ghosts D) → SeenMayStay g → (c : Held (FileStore D g)) (files : Files D) {fault : StoreFault} {back : Files D}
     → (HasCleanDisk (file_state c) → IsOpened c) → (HasCleanDisk (file_state c) → Finds files c)
     → (HasCleanDisk (file_state c) → (db : Trees) → AreSettled g files db → (file_state c).committed.trees ≡ db)
-    → (HasCleanDisk (file_state c) → LeavesAlone (file_state c) (file_state c).committed.trees) → c.step_limit ≡ None → AreGivenUp c fault back → AreRefusedOver g files fault back
+    → (HasCleanDisk (file_state c) → LeavesAlone (file_state c) (file_state c).committed.trees) → c.step_limit ≡ None
+    → AreGivenUp c fault back → AreRefusedOver g files fault back
 refused_over g stays c files {back = back} opened finds found alone unlimited given = record {
   conn = c;
   opened = is_over g c files opened found alone;

@@ -172,8 +172,11 @@ module _ {S A : Type 0} (g : Ghosts S) (is_saved : Bool) (old new : Held S) wher
     looked_runs (Err fault) h = tt
     looked_runs (Ok found) h = record {
       runs = λ clean merging.
-          let same = h.same clean (has_office is_saved (state g old) merging) in
-          ((merging.0, unchanged_holds (state g old) (state g new) is_saved merging.0 same merging.1), inr (goes_on_unchanged (state g old) (state g new) same h.survives.limit));
+          let same = h.same clean (has_office is_saved (state g old) merging) in (
+            (merging.0, unchanged_holds (state g old) (state g new) is_saved merging.0 same merging.1),
+            inr
+                (goes_on_unchanged (state g old) (state g new) same h.survives.limit),
+          );
       savepoints = λ clean merging others has. other_savepoints_stay (state g old) (state g new) is_saved others (h.same clean (has_office is_saved (state g old) merging)).2 has;
       survives = survives_merge g is_saved old new (λ db lacks merging. lacks (has_office is_saved (state g old) merging)) h.survives;
     }
@@ -200,8 +203,11 @@ module _ {S A : Type 0} (g : Ghosts S) (is_saved : Bool) (old new : Held S) wher
     listed_runs (Err fault) h = tt
     listed_runs (Ok found) h = record {
       runs = λ clean merging.
-          let same = h.same clean (has_office is_saved (state g old) merging) in
-          ((merging.0, unchanged_holds (state g old) (state g new) is_saved merging.0 same merging.1), inr (goes_on_unchanged (state g old) (state g new) same h.survives.limit));
+          let same = h.same clean (has_office is_saved (state g old) merging) in (
+            (merging.0, unchanged_holds (state g old) (state g new) is_saved merging.0 same merging.1),
+            inr
+                (goes_on_unchanged (state g old) (state g new) same h.survives.limit),
+          );
       savepoints = λ clean merging others has. other_savepoints_stay (state g old) (state g new) is_saved others (h.same clean (has_office is_saved (state g old) merging)).2 has;
       survives = survives_merge g is_saved old new (λ db lacks merging. lacks (has_office is_saved (state g old) merging)) h.survives;
     }
@@ -353,7 +359,8 @@ module _ {S : Type 0} (g : Ghosts S) (old new : Held S) where
     };
   }
 
-  goes_on_showing : {db : Database} → Shows (state g old) (state g new) db (state g old).committed true → KeepsOthers (state g old).now db → new.step_limit ≡ old.step_limit
+  goes_on_showing : {db : Database} → Shows (state g old) (state g new) db (state g old).committed true
+      → KeepsOthers (state g old).now db → new.step_limit ≡ old.step_limit
       → GoesOn (state g old) (state g new)
   goes_on_showing {db = db} shown others limit = record {
     was_open = shown.was_open;
@@ -364,7 +371,8 @@ module _ {S : Type 0} (g : Ghosts S) (old new : Held S) where
     limit = limit;
   }
 
-  went_back : (tables : Tables) (saved : Contents) → tables.saved ≡ Some saved → GoesBack (state g old) (state g new) → new.step_limit ≡ old.step_limit → HoldsTables true tables (state g old)
+  went_back : (tables : Tables) (saved : Contents) → tables.saved ≡ Some saved → GoesBack (state g old) (state g new)
+      → new.step_limit ≡ old.step_limit → HoldsTables true tables (state g old)
       → HoldsTables true (back_at saved tables) (state g new) × GoesOn (state g old) (state g new)
   went_back tables saved is back limit h =
       let at : IsSavedWith saved (state g old) = subst (λ o. HasSavepoint true o (state g old)) is h.saved in
@@ -417,8 +425,11 @@ module _ {S A : Type 0} (g : Ghosts S) (old new : Held S) where
   save_runs is_saved (Err fault) noted h = tt
   save_runs is_saved (Ok x) noted h = subst (λ b. RunsOn g false old b new) (sym noted) (record {
     runs = λ clean merging.
-        let made = h.ok clean tt in
-        ((with_savepoint merging.0, saved_now g old new merging.0 false made merging.1), inr (goes_on_showing g old new made.shown (others_same (state g old).now) h.survives.limit));
+        let made = h.ok clean tt in (
+          (with_savepoint merging.0, saved_now g old new merging.0 false made merging.1),
+          inr
+              (goes_on_showing g old new made.shown (others_same (state g old).now) h.survives.limit),
+        );
     savepoints = λ clean merging others has.
         ((state g old).now, subst (λ (marks : List Savepoint). IsSavedAs marks (state g old).now (state g new)) has (h.ok clean tt).saved);
     survives = survives_merge g false old new (λ db lacks merging. lacks tt) h.survives;
@@ -427,7 +438,8 @@ module _ {S A : Type 0} (g : Ghosts S) (old new : Held S) where
   pub back_holds : (r : Result A StoreFault) → CallsPart g back_text IsAny GoesBack old new r → HasCleanDisk (state g new) → (tables : Tables) (saved : Contents) → HoldsTables true tables (state g old)
       → tables.saved ≡ Some saved → OnOk r (HoldsTables true (back_at saved tables) (state g new))
   back_holds (Err fault) h clean tables saved holds is = tt
-  back_holds (Ok x) h clean tables saved holds is = (went_back g old new tables saved is (h.ok clean tt) h.survives.limit holds).0
+  back_holds (Ok x) h clean tables saved holds is =
+      (went_back g old new tables saved is (h.ok clean tt) h.survives.limit holds).0
 
   pub back_runs : (r : Result A StoreFault) → CallsPart g back_text IsAny GoesBack old new r → OnOk r (RunsOn g true old true new)
   back_runs (Err fault) h = tt
@@ -455,8 +467,11 @@ module _ {S A : Type 0} (g : Ghosts S) (old new : Held S) where
   release_runs is_saved (Err fault) noted h = tt
   release_runs is_saved (Ok x) noted h = subst (λ b. RunsOn g true old b new) (sym noted) (record {
     runs = λ clean merging.
-        let made = h.ok clean (needs_saved g old new merging) in
-        ((without_savepoint merging.0, released g old new merging.0 made merging.1), inr (goes_on_showing g old new made.shown (others_same (state g old).now) h.survives.limit));
+        let made = h.ok clean (needs_saved g old new merging) in (
+          (without_savepoint merging.0, released g old new merging.0 made merging.1),
+          inr
+              (goes_on_showing g old new made.shown (others_same (state g old).now) h.survives.limit),
+        );
     savepoints = λ clean merging others has. (h.ok clean (needs_saved g old new merging)).marks others has.0 has.1;
     survives = survives_merge g true old new (λ db lacks merging. lacks (needs_saved g old new merging)) h.survives;
   })

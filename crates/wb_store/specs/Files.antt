@@ -67,7 +67,8 @@ pub record AreGivenUp {D : Type 0} {g : Ghosts D} (conn : Held (FileStore D g)) 
   pub clean : AreClean g back.log back.db → HasCleanDisk (file_state at)
   pub left : AreClean g back.log back.db → LeaveOnly g back (file_state at).may_leave
 
--- the files were opened, without a limit of steps, the office was refused, and the files were handed back: they keep the office, and an empty one if no database was made
+-- the files were opened, without a limit of steps, the office was refused, and the files were handed back: they keep
+-- the office, and an empty one if no database was made
 -- in them
 pub record AreRefusedOver {D : Type 0} (g : Ghosts D) (files : Files D) (fault : StoreFault) (back : Files D) : Type 0 where
   pub conn : Held (FileStore D g)

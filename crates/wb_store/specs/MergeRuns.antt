@@ -64,7 +64,8 @@ HoldsSome db = (now : Contents) × HoldsContents now db
 
 -- ---- calls that succeeded
 
--- a connection goes on in its transaction: it was open and is, what was committed stays, and so does the limit of steps, and the tables of others keep their rows
+-- a connection goes on in its transaction: it was open and is, what was committed stays, and so does the limit of
+-- steps, and the tables of others keep their rows
 pub record GoesOn (old new : State) : Type 0 where
   pub was_open : IsTrue old.is_open
   pub is_open : IsTrue new.is_open

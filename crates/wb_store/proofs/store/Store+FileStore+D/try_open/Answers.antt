@@ -26,7 +26,9 @@ returns-in-Ok-clause-clean g c = clean_over _ c.adopt_over.result (λ clean. (c.
 pub returns-in-Ok-clause-refused : goal.returns-in-Ok-clause-refused
 returns-in-Ok-clause-refused g c =
     let e = c.in-Ok.ensures in
-    IfErr-weaker c.adopt_over.result _ _ (λ refused given. inr (refused_over g.D.Disk g.met.D.Disk.seen_may_stay c.in-Ok.conn c.args.files e.opened e.finds e.found e.alone e.fresh.unlimited given)) c.adopt_over.ensures.refused
+    IfErr-weaker c.adopt_over.result _ _ (λ refused given. inr
+    (refused_over g.D.Disk g.met.D.Disk.seen_may_stay c.in-Ok.conn c.args.files e.opened e.finds e.found e.alone
+    e.fresh.unlimited given)) c.adopt_over.ensures.refused
 
 pub returns-in-Err-clause-refused : goal.returns-in-Err-clause-refused
 returns-in-Err-clause-refused g c =
