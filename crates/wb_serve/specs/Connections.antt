@@ -1,6 +1,7 @@
 -- What a connection has of its exchange: what has come of the request, and then the answer and how much of it was
 -- written (RFC 9112, section 9.3).
-use Rattle.std.specs.Prelude.{◌≡◌, ◌≢◌, ◌⊎◌, ℕ, ◌+◌, ◌≤◌, List, [], ◌++◌, length, take, drop, Option, None, Some}
+use Rattle.std.specs.Prelude.{◌≡◌, ◌≢◌, ◌⊎◌, ℕ, ◌+◌, ◌≤◌, Bool, true, false, List, [], ◌++◌, length, take, drop, Option}
+use Rattle.std.specs.Prelude.{None, Some}
 use Rattle.std.specs.Io.KnownBytes.{Appends, Consumes, IsAtEnd, Keeps}
 use Rattle.wb_api.specs.Coming.{IsSettled}
 use Rattle.wb_api.specs.Requests.{IsRequestFront}
@@ -24,6 +25,13 @@ opened = record { stage = stage.Head; bytes = [] }
 abbrev pub put : List ℕ → ConnectionState
 put answer = record { stage = stage.Answer 0; bytes = answer }
 
+-- whether more of the request is to come at this stage
+abbrev pub is_coming : Stage → Bool
+is_coming stage.Head = true
+is_coming (stage.Body total) = true
+is_coming stage.Ready = false
+is_coming (stage.Answer done) = false
+
 -- what waits for an answer at this stage
 abbrev pub asked_at : Stage → List ℕ → Option (List ℕ)
 asked_at stage.Head bytes = None
@@ -35,35 +43,36 @@ asked_at (stage.Answer done) bytes = None
 abbrev pub asked_of : ConnectionState → Option (List ℕ)
 asked_of c = asked_at c.stage c.bytes
 
--- these bytes came after those that had come
+-- of a request of which more was to come, these bytes came after those that had come
 abbrev pub Adds : ConnectionState → ConnectionState → Option (List ℕ) → Option (List ℕ) → Type 0
-Adds old new before after =
-    (more : List ℕ) × Consumes before after more × (new.bytes ≡ old.bytes ++ more)
+Adds old new before after = (is_coming old.stage ≡ true)
+    × ((more : List ℕ) × Consumes before after more × (new.bytes ≡ old.bytes ++ more))
 
 -- nothing was read or written, and the connection is as it was
 abbrev pub Rests : ConnectionState → ConnectionState → Option (List ℕ) → Option (List ℕ) → Type 0
 Rests old new before after = (new ≡ old) × Keeps before after
 
 -- what a read gave: bytes, after which more of the request has to come; a request, or all that comes; nothing; or a
--- failure, after which no answer is due
+-- failure, which leaves the connection as it was. Only a connection of whose request more was to come reads, and then
+-- waits for an answer
 abbrev pub IsRead : Took → ConnectionState → ConnectionState → Option (List ℕ) → Option (List ℕ) → Type 0
 IsRead took.Some old new before after =
-    Adds old new before after × IsRequestFront new.bytes × (asked_of new ≡ None)
+    Adds old new before after × (is_coming new.stage ≡ true) × IsRequestFront new.bytes
 IsRead took.All old new before after =
     Adds old new before after × (new.stage ≡ stage.Ready) × (IsSettled new.bytes ⊎ IsAtEnd after)
 IsRead took.Again old new before after = Rests old new before after
 IsRead took.Later old new before after = Rests old new before after
-IsRead took.Failed old new before after = new.stage ≡ old.stage
+IsRead took.Failed old new before after = (is_coming old.stage ≡ true) × (new ≡ old)
 
 -- bytes were added to what had come, and more has to come or a request has come; or there is no memory for them
 abbrev pub IsAdded : Took → ConnectionState → ConnectionState → List ℕ → Type 0
 IsAdded took.Some old new came =
-    (new.bytes ≡ old.bytes ++ came) × IsRequestFront new.bytes × (asked_of new ≡ None)
+    (new.bytes ≡ old.bytes ++ came) × (is_coming new.stage ≡ true) × IsRequestFront new.bytes
 IsAdded took.All old new came =
     (new.bytes ≡ old.bytes ++ came) × (new.stage ≡ stage.Ready) × IsSettled new.bytes
 IsAdded took.Again old new came = ⊥
 IsAdded took.Later old new came = ⊥
-IsAdded took.Failed old new came = new.stage ≡ old.stage
+IsAdded took.Failed old new came = new ≡ old
 
 -- so many bytes of an answer were written, and then the next
 abbrev pub WritesNext : ConnectionState → ConnectionState → Option (List ℕ) → Option (List ℕ) → Type 0

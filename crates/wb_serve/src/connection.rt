@@ -1,7 +1,8 @@
 //! One connection: what has come of its request, and then what is left of its answer. It makes no
 //! call of the system: its bytes come from a reader and go to a writer.
-ghost use Rattle.std.specs.Prelude.{◌≡◌, ◌<◌, ℕ, length, option_map};
-ghost use Rattle.wb_serve.specs.Connections.{IsAdded, IsRead, IsWritten, asked_of, opened, put};
+ghost use Rattle.std.specs.Prelude.{◌≡◌, ◌<◌, ℕ, length, option_map, true};
+ghost use Rattle.wb_serve.specs.Connections.{IsAdded, IsRead, IsWritten, asked_of, is_coming};
+ghost use Rattle.wb_serve.specs.Connections.{opened, put};
 ghost use Rattle.wb_serve.specs.declared.connection.Stage.TheVariants.{Ready};
 
 use std::alloc::Global;
@@ -133,7 +134,9 @@ impl Connection {
     }
 
     /// How many bytes may still come of the request.
-    fn left(&self) -> usize {
+    fn left(&self) -> usize
+        ensures coming { 0 < result → is_coming self.now.stage ≡ true }
+    {
         match self.stage {
             Stage::Head => HEAD_LIMIT.saturating_sub(self.bytes.len()),
             Stage::Body(total) => total.saturating_sub(self.bytes.len()),
@@ -162,7 +165,7 @@ impl Connection {
         self.read_into(alloc, routes, reader, &mut buffer[..left])
     }
 
-    /// Reads once, at most as much as there is room for.
+    /// Reads once, at most as much as there is room for. More of the request has to come.
     fn read_into<R: Read>(
         &mut self,
         alloc: Global,
@@ -171,6 +174,7 @@ impl Connection {
         room: &mut [u8],
     ) -> Took
         requires room { 0 < length room.old }
+        requires coming { is_coming self.old.stage ≡ true }
         ensures value { IsRead result self.old self.new
             (R.remaining reader.old) (R.remaining reader.new) }
     {
