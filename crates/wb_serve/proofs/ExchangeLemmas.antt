@@ -7,112 +7,86 @@ use Rattle.wb_step.specs.Offices.{Open, Stands}
 use Rattle.wb_api.specs.Exchange.{LeadsOn}
 use Rattle.wb_serve.specs.declared.clients.ServiceEnd.{ServiceEnd}
 use Rattle.wb_serve.specs.declared.clients.ServiceEnd.TheVariants.{Closed}
-use Rattle.wb_serve.specs.Exchanges.{Answered, AnswersAll, AnswersOne, AreAnswered, AreServed, IsAnswered, IsService}
+use Rattle.wb_serve.specs.Exchanges.{Answered, AnswersAll, AnswersOne, AnswersWhile, AreAnswered, IsAnswered, IsService}
 use Rattle.wb_serve.specs.Exchanges.{Serves, ServesAll}
 
 -- ---- one after another
 
 -- exchanges after exchanges are exchanges
-AreAnswered-append : {X : Type 0} (is_clean is_closed : X → Type 0) (stands_at : X → Machine → Type 0)
+AreAnswered-append : {X : Type 0} (IsSo is_clean is_closed : X → Type 0) (stands_at : X → Machine → Type 0)
     (leaves : X → Machine → Machine → StoreFault → Type 0) (xs ys : List Answered) (a b c : X)
-    → AreAnswered is_clean is_closed stands_at leaves xs a b → AreAnswered is_clean is_closed stands_at leaves ys b c
-    → AreAnswered is_clean is_closed stands_at leaves (xs ++ ys) a c
-AreAnswered-append is_clean is_closed stands_at leaves [] ys a b c first later =
-    subst (λ start. AreAnswered is_clean is_closed stands_at leaves ys start c) first later
-AreAnswered-append is_clean is_closed stands_at leaves (x ∷ xs) ys a b c first later = (
-  first.0,
-  first.1,
-  AreAnswered-append is_clean is_closed stands_at leaves xs ys first.0 b c first.2 later,
-)
-
--- and so are those of an office that is not closed
-AreServed-append : {X : Type 0} (is_clean is_closed : X → Type 0) (stands_at : X → Machine → Type 0)
-    (leaves : X → Machine → Machine → StoreFault → Type 0) (xs ys : List Answered) (a b c : X)
-    → AreServed is_clean is_closed stands_at leaves xs a b → AreServed is_clean is_closed stands_at leaves ys b c
-    → AreServed is_clean is_closed stands_at leaves (xs ++ ys) a c
-AreServed-append is_clean is_closed stands_at leaves [] ys a b c first later =
-    subst (λ start. AreServed is_clean is_closed stands_at leaves ys start c) first later
-AreServed-append is_clean is_closed stands_at leaves (x ∷ xs) ys a b c first later = (
+    → AreAnswered IsSo is_clean is_closed stands_at leaves xs a b
+    → AreAnswered IsSo is_clean is_closed stands_at leaves ys b c
+    → AreAnswered IsSo is_clean is_closed stands_at leaves (xs ++ ys) a c
+AreAnswered-append IsSo is_clean is_closed stands_at leaves [] ys a b c first later =
+    subst (λ start. AreAnswered IsSo is_clean is_closed stands_at leaves ys start c) first later
+AreAnswered-append IsSo is_clean is_closed stands_at leaves (x ∷ xs) ys a b c first later = (
   first.0,
   first.1,
   first.2,
-  AreServed-append is_clean is_closed stands_at leaves xs ys first.1 b c first.3 later,
+  AreAnswered-append IsSo is_clean is_closed stands_at leaves xs ys first.1 b c first.3 later,
 )
 
 -- ---- what was answered
 
 -- no exchange
-pub AnswersAll-none : {X : Type 0} (is_clean is_closed : X → Type 0) (stands_at : X → Machine → Type 0)
+pub AnswersWhile-none : {X : Type 0} (IsSo is_clean is_closed : X → Type 0) (stands_at : X → Machine → Type 0)
     (leaves : X → Machine → Machine → StoreFault → Type 0) (before after : List Answered) (a : X)
-    → after ≡ before → AnswersAll is_clean is_closed stands_at leaves before after a a
-AnswersAll-none is_clean is_closed stands_at leaves before after a same = ([], same ∙ sym (append-nil before), refl)
+    → after ≡ before → AnswersWhile IsSo is_clean is_closed stands_at leaves before after a a
+AnswersWhile-none IsSo is_clean is_closed stands_at leaves before after a same =
+    ([], same ∙ sym (append-nil before), refl)
 
 -- exchanges, and then one more or none
-pub AnswersAll-then : {X : Type 0} (is_clean is_closed : X → Type 0) (stands_at : X → Machine → Type 0)
+pub AnswersWhile-then : {X : Type 0} (IsSo is_clean is_closed : X → Type 0) (stands_at : X → Machine → Type 0)
     (leaves : X → Machine → Machine → StoreFault → Type 0) (first middle last : List Answered) (a b c : X)
-    → AnswersAll is_clean is_closed stands_at leaves first middle a b
+    → AnswersWhile IsSo is_clean is_closed stands_at leaves first middle a b → IsSo b
     → AnswersOne is_clean is_closed stands_at leaves middle last b c
-    → AnswersAll is_clean is_closed stands_at leaves first last a c
-AnswersAll-then is_clean is_closed stands_at leaves first middle last a b c all (inl (same, kept)) = (
+    → AnswersWhile IsSo is_clean is_closed stands_at leaves first last a c
+AnswersWhile-then IsSo is_clean is_closed stands_at leaves first middle last a b c all so (inl (same, kept)) = (
   all.0,
   same ∙ all.1,
-  subst (λ end. AreAnswered is_clean is_closed stands_at leaves all.0 a end) (sym kept) all.2,
+  subst (λ end. AreAnswered IsSo is_clean is_closed stands_at leaves all.0 a end) (sym kept) all.2,
 )
-AnswersAll-then is_clean is_closed stands_at leaves first middle last a b c all (inr (one, grows, is)) = (
+AnswersWhile-then IsSo is_clean is_closed stands_at leaves first middle last a b c all so (inr (one, grows, is)) = (
   all.0 ++ one ∷ [],
   grows ∙ ap (λ list. list ++ one ∷ []) all.1 ∙ append_assoc first all.0 (one ∷ []),
-  AreAnswered-append is_clean is_closed stands_at leaves all.0 (one ∷ []) a b c all.2 (c, is, refl),
-)
-
--- no exchange
-pub ServesAll-none : {X : Type 0} (is_clean is_closed : X → Type 0) (stands_at : X → Machine → Type 0)
-    (leaves : X → Machine → Machine → StoreFault → Type 0) (before after : List Answered) (a : X)
-    → after ≡ before → ServesAll is_clean is_closed stands_at leaves before after a a
-ServesAll-none is_clean is_closed stands_at leaves before after a same = ([], same ∙ sym (append-nil before), refl)
-
--- exchanges, and then one more or none of an office that is not closed
-pub ServesAll-then : {X : Type 0} (is_clean is_closed : X → Type 0) (stands_at : X → Machine → Type 0)
-    (leaves : X → Machine → Machine → StoreFault → Type 0) (first middle last : List Answered) (a b c : X)
-    → ServesAll is_clean is_closed stands_at leaves first middle a b → ¬ (is_closed b)
-    → AnswersOne is_clean is_closed stands_at leaves middle last b c
-    → ServesAll is_clean is_closed stands_at leaves first last a c
-ServesAll-then is_clean is_closed stands_at leaves first middle last a b c all on (inl (same, kept)) = (
-  all.0,
-  same ∙ all.1,
-  subst (λ end. AreServed is_clean is_closed stands_at leaves all.0 a end) (sym kept) all.2,
-)
-ServesAll-then is_clean is_closed stands_at leaves first middle last a b c all on (inr (one, grows, is)) = (
-  all.0 ++ one ∷ [],
-  grows ∙ ap (λ list. list ++ one ∷ []) all.1 ∙ append_assoc first all.0 (one ∷ []),
-  AreServed-append is_clean is_closed stands_at leaves all.0 (one ∷ []) a b c all.2 (on, c, is, refl),
+  AreAnswered-append IsSo is_clean is_closed stands_at leaves all.0 (one ∷ []) a b c all.2 (so, c, is, refl),
 )
 
 -- exchanges, and then more of them
-pub ServesAll-after : {X : Type 0} (is_clean is_closed : X → Type 0) (stands_at : X → Machine → Type 0)
+pub AnswersWhile-after : {X : Type 0} (IsSo is_clean is_closed : X → Type 0) (stands_at : X → Machine → Type 0)
     (leaves : X → Machine → Machine → StoreFault → Type 0) (first middle last : List Answered) (a b c : X)
-    → ServesAll is_clean is_closed stands_at leaves first middle a b
-    → ServesAll is_clean is_closed stands_at leaves middle last b c
-    → ServesAll is_clean is_closed stands_at leaves first last a c
-ServesAll-after is_clean is_closed stands_at leaves first middle last a b c one two = (
+    → AnswersWhile IsSo is_clean is_closed stands_at leaves first middle a b
+    → AnswersWhile IsSo is_clean is_closed stands_at leaves middle last b c
+    → AnswersWhile IsSo is_clean is_closed stands_at leaves first last a c
+AnswersWhile-after IsSo is_clean is_closed stands_at leaves first middle last a b c one two = (
   one.0 ++ two.0,
   two.1 ∙ ap (λ list. list ++ two.0) one.1 ∙ append_assoc first one.0 two.0,
-  AreServed-append is_clean is_closed stands_at leaves one.0 two.0 a b c one.2 two.2,
+  AreAnswered-append IsSo is_clean is_closed stands_at leaves one.0 two.0 a b c one.2 two.2,
 )
+
+-- what was answered stays as it is if nothing is answered
+pub AnswersWhile-kept : {X : Type 0} (IsSo is_clean is_closed : X → Type 0) (stands_at : X → Machine → Type 0)
+    (leaves : X → Machine → Machine → StoreFault → Type 0) (before middle after : List Answered) (a b : X)
+    → AnswersWhile IsSo is_clean is_closed stands_at leaves before middle a b → after ≡ middle
+    → AnswersWhile IsSo is_clean is_closed stands_at leaves before after a b
+AnswersWhile-kept IsSo is_clean is_closed stands_at leaves before middle after a b all same =
+    (all.0, same ∙ all.1, all.2)
 
 -- ---- the states of the office
 
 -- what was read of the store was what was written, up to the end and so up to the beginning
-AreServed-clean : {X : Type 0} (is_clean is_closed : X → Type 0) (stands_at : X → Machine → Type 0)
+AreAnswered-clean : {X : Type 0} (IsSo is_clean is_closed : X → Type 0) (stands_at : X → Machine → Type 0)
     (leaves : X → Machine → Machine → StoreFault → Type 0) (xs : List Answered) (a b : X)
-    → AreServed is_clean is_closed stands_at leaves xs a b → is_clean b → is_clean a
-AreServed-clean is_clean is_closed stands_at leaves [] a b served clean = subst is_clean served clean
-AreServed-clean is_clean is_closed stands_at leaves (x ∷ xs) a b served clean =
-    served.2.clean (AreServed-clean is_clean is_closed stands_at leaves xs served.1 b served.3 clean)
+    → AreAnswered IsSo is_clean is_closed stands_at leaves xs a b → is_clean b → is_clean a
+AreAnswered-clean IsSo is_clean is_closed stands_at leaves [] a b all clean = subst is_clean all clean
+AreAnswered-clean IsSo is_clean is_closed stands_at leaves (x ∷ xs) a b all clean =
+    all.2.clean (AreAnswered-clean IsSo is_clean is_closed stands_at leaves xs all.1 b all.3 clean)
 
 -- exchanges of an office that is not closed before any of them lead from each state at which it stood
 pub served-leads : {X : Type 0} (is_clean is_closed : X → Type 0) (stands_at : X → Machine → Type 0)
     (leaves : X → Machine → Machine → StoreFault → Type 0) (xs : List Answered) (a b : X)
-    → AreServed is_clean is_closed stands_at leaves xs a b
+    → AreAnswered (λ office. ¬ (is_closed office)) is_clean is_closed stands_at leaves xs a b
     → LeadsOn is_clean is_closed stands_at leaves a b (λ first found standing. Serves xs first found standing)
 served-leads is_clean is_closed stands_at leaves [] a b served = λ before clean stands.
     (before, Open, subst (λ office. stands_at office before) (sym served) stands, ((refl, refl), λ on. refl))
@@ -128,7 +102,8 @@ served-leads is_clean is_closed stands_at leaves (x ∷ []) a b served = λ befo
       ),
     )
 served-leads is_clean is_closed stands_at leaves (x ∷ y ∷ ys) a b served = λ before clean stands.
-    let between_clean = AreServed-clean is_clean is_closed stands_at leaves (y ∷ ys) served.1 b served.3 clean in
+    let between_clean = AreAnswered-clean (λ office. ¬ (is_closed office)) is_clean is_closed stands_at leaves
+    (y ∷ ys) served.1 b served.3 clean in
     let one = served.2.leads before between_clean stands in
     let is_open = one.3.1 served.3.0 in
     let stands_on = subst (λ standing. Stands is_closed stands_at leaves served.1 one.0 standing) is_open one.2 in
@@ -144,13 +119,6 @@ served-leads is_clean is_closed stands_at leaves (x ∷ y ∷ ys) a b served = �
     )
 
 -- ---- a service
-
--- what was answered stays as it is where nothing is answered
-pub ServesAll-kept : {X : Type 0} (is_clean is_closed : X → Type 0) (stands_at : X → Machine → Type 0)
-    (leaves : X → Machine → Machine → StoreFault → Type 0) (before middle after : List Answered) (a b : X)
-    → ServesAll is_clean is_closed stands_at leaves before middle a b → after ≡ middle
-    → ServesAll is_clean is_closed stands_at leaves before after a b
-ServesAll-kept is_clean is_closed stands_at leaves before middle after a b all same = (all.0, same ∙ all.1, all.2)
 
 -- a service that ends while the office is open
 pub service-ends : {X : Type 0} (is_clean is_closed : X → Type 0) (stands_at : X → Machine → Type 0)

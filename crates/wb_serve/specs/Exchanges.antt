@@ -1,5 +1,5 @@
 -- The exchanges of an office with many clients, one after another.
-use Rattle.std.specs.Prelude.{◌≡◌, ◌⊎◌, ℕ, false, List, [], ◌∷◌, ◌++◌, Some}
+use Rattle.std.specs.Prelude.{◌≡◌, ◌⊎◌, ⊤, ℕ, false, List, [], ◌∷◌, ◌++◌, Some}
 use Rattle.wb_states.specs.Machine.{Machine}
 use Rattle.wb_states.specs.declared.store_fault.StoreFault.{StoreFault}
 use Rattle.wb_step.specs.Offices.{Open, Standing}
@@ -36,21 +36,13 @@ pub record IsAnswered {X : Type 0} (is_clean is_closed : X → Type 0) (stands_a
   pub leads : LeadsOn is_clean is_closed stands_at leaves old new
       (λ before after standing. Exchanges received before after standing (Some []) (Some one.answer) ended)
 
--- exchanges one after another took the office from here to there
-abbrev pub AreAnswered : {X : Type 0} → (X → Type 0) → (X → Type 0) → (X → Machine → Type 0)
+-- exchanges one after another took the office from here to there, and this was so of it before each of them
+abbrev pub AreAnswered : {X : Type 0} → (X → Type 0) → (X → Type 0) → (X → Type 0) → (X → Machine → Type 0)
     → (X → Machine → Machine → StoreFault → Type 0) → List Answered → X → X → Type 0
-AreAnswered is_clean is_closed stands_at leaves [] old new = new ≡ old
-AreAnswered {X} is_clean is_closed stands_at leaves (one ∷ others) old new =
-    (between : X) × IsAnswered is_clean is_closed stands_at leaves one old between
-    × AreAnswered is_clean is_closed stands_at leaves others between new
-
--- exchanges one after another took the office from here to there, and it was not closed before any of them
-abbrev pub AreServed : {X : Type 0} → (X → Type 0) → (X → Type 0) → (X → Machine → Type 0)
-    → (X → Machine → Machine → StoreFault → Type 0) → List Answered → X → X → Type 0
-AreServed is_clean is_closed stands_at leaves [] old new = new ≡ old
-AreServed {X} is_clean is_closed stands_at leaves (one ∷ others) old new =
-    (¬ (is_closed old)) × (between : X) × IsAnswered is_clean is_closed stands_at leaves one old between
-    × AreServed is_clean is_closed stands_at leaves others between new
+AreAnswered IsSo is_clean is_closed stands_at leaves [] old new = new ≡ old
+AreAnswered {X} IsSo is_clean is_closed stands_at leaves (one ∷ others) old new =
+    IsSo old × (between : X) × IsAnswered is_clean is_closed stands_at leaves one old between
+    × AreAnswered IsSo is_clean is_closed stands_at leaves others between new
 
 -- what was answered grew by one exchange, or by none
 abbrev pub AnswersOne : {X : Type 0} → (X → Type 0) → (X → Type 0) → (X → Machine → Type 0)
@@ -59,17 +51,24 @@ AnswersOne is_clean is_closed stands_at leaves before after old new =
     ((after ≡ before) × (new ≡ old))
     ⊎ ((one : Answered) × (after ≡ before ++ one ∷ []) × IsAnswered is_clean is_closed stands_at leaves one old new)
 
--- what was answered grew by these exchanges
+-- what was answered grew by exchanges, and this was so of the office before each of them
+abbrev pub AnswersWhile : {X : Type 0} → (X → Type 0) → (X → Type 0) → (X → Type 0) → (X → Machine → Type 0)
+    → (X → Machine → Machine → StoreFault → Type 0) → List Answered → List Answered → X → X → Type 0
+AnswersWhile IsSo is_clean is_closed stands_at leaves before after old new =
+    (more : List Answered) × (after ≡ before ++ more)
+    × AreAnswered IsSo is_clean is_closed stands_at leaves more old new
+
+-- what was answered grew by exchanges
 abbrev pub AnswersAll : {X : Type 0} → (X → Type 0) → (X → Type 0) → (X → Machine → Type 0)
     → (X → Machine → Machine → StoreFault → Type 0) → List Answered → List Answered → X → X → Type 0
 AnswersAll is_clean is_closed stands_at leaves before after old new =
-    (more : List Answered) × (after ≡ before ++ more) × AreAnswered is_clean is_closed stands_at leaves more old new
+    AnswersWhile (λ office. ⊤) is_clean is_closed stands_at leaves before after old new
 
 -- what was answered grew by exchanges of an office that was not closed before any of them
 abbrev pub ServesAll : {X : Type 0} → (X → Type 0) → (X → Type 0) → (X → Machine → Type 0)
     → (X → Machine → Machine → StoreFault → Type 0) → List Answered → List Answered → X → X → Type 0
 ServesAll is_clean is_closed stands_at leaves before after old new =
-    (more : List Answered) × (after ≡ before ++ more) × AreServed is_clean is_closed stands_at leaves more old new
+    AnswersWhile (λ office. ¬ (is_closed office)) is_clean is_closed stands_at leaves before after old new
 
 -- a service: exchanges one after another, from each state at which the office stood, until it ended or the office was
 -- closed; who waited then was answered too, by the closed office
@@ -82,7 +81,7 @@ pub record IsService {X : Type 0} (is_clean is_closed : X → Type 0) (stands_at
   pub grows : after ≡ (before ++ more) ++ late
   pub leads : LeadsOn is_clean is_closed stands_at leaves old last
       (λ first found standing. Serves more first found standing)
-  pub served : AreServed is_clean is_closed stands_at leaves more old last
+  pub served : AreAnswered (λ office. ¬ (is_closed office)) is_clean is_closed stands_at leaves more old last
   pub closed : (late ≡ []) ⊎ is_closed last
   pub tells : ended ≡ Closed → is_closed last
-  pub later : AreAnswered is_clean is_closed stands_at leaves late last new
+  pub later : AreAnswered (λ office. ⊤) is_clean is_closed stands_at leaves late last new

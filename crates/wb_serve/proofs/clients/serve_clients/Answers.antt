@@ -1,20 +1,21 @@
 -- A service ends while the office is open, or once it is closed and has answered those who wait.
 use Rattle.std.proofs.Common.{◌∙◌, rules}
-use Rattle.wb_serve.proofs.ExchangeLemmas.{ServesAll-after, ServesAll-kept, service-closes, service-ends}
+use Rattle.wb_serve.proofs.ExchangeLemmas.{AnswersWhile-after, AnswersWhile-kept, service-closes, service-ends}
 use Rattle.wb_serve.proofs.clients.serve_clients.Goals as goal
 
 pub returns-in-Done : goal.returns-in-Done
 returns-in-Done g c = record {
   value = service-ends g.O.CarryOut.is_clean g.O.CarryOut.is_closed g.O.CarryOut.stands_at g.O.CarryOut.leaves _ _ _ _ _
-      (ServesAll-kept g.O.CarryOut.is_clean g.O.CarryOut.is_closed g.O.CarryOut.stands_at g.O.CarryOut.leaves
-      _ _ _ _ _ c.loop.invariant c.turn.ensures.answered) (λ e. cc);
+      (AnswersWhile-kept (λ office. ¬ (g.O.CarryOut.is_closed office)) g.O.CarryOut.is_clean g.O.CarryOut.is_closed
+      g.O.CarryOut.stands_at g.O.CarryOut.leaves _ _ _ _ _ c.loop.invariant c.turn.ensures.answered) (λ e. cc);
 }
 
 pub returns-in-Stopped : goal.returns-in-Stopped
 returns-in-Stopped g c = record {
   value = service-ends g.O.CarryOut.is_clean g.O.CarryOut.is_closed g.O.CarryOut.stands_at g.O.CarryOut.leaves _ _ _ _ _
-      (ServesAll-kept g.O.CarryOut.is_clean g.O.CarryOut.is_closed g.O.CarryOut.stands_at g.O.CarryOut.leaves
-      _ _ _ _ _ c.loop.invariant (c.finish.ensures.answered ∙ c.turn.ensures.answered)) (λ e. cc);
+      (AnswersWhile-kept (λ office. ¬ (g.O.CarryOut.is_closed office)) g.O.CarryOut.is_clean g.O.CarryOut.is_closed
+      g.O.CarryOut.stands_at g.O.CarryOut.leaves _ _ _ _ _ c.loop.invariant
+      (c.finish.ensures.answered ∙ c.turn.ensures.answered)) (λ e. cc);
 }
 
 pub returns-then-closed : goal.returns-then-closed
@@ -23,18 +24,21 @@ returns-then-closed g c =
     record {
       value = service-closes g.O.CarryOut.is_clean g.O.CarryOut.is_closed g.O.CarryOut.stands_at g.O.CarryOut.leaves
           _ _ _ _ _ _ _ _
-          (ServesAll-after g.O.CarryOut.is_clean g.O.CarryOut.is_closed g.O.CarryOut.stands_at g.O.CarryOut.leaves
-          _ _ _ _ _ _
-          (ServesAll-kept g.O.CarryOut.is_clean g.O.CarryOut.is_closed g.O.CarryOut.stands_at g.O.CarryOut.leaves
+          (AnswersWhile-after (λ office. ¬ (g.O.CarryOut.is_closed office)) g.O.CarryOut.is_clean
+          g.O.CarryOut.is_closed g.O.CarryOut.stands_at g.O.CarryOut.leaves _ _ _ _ _ _
+          (AnswersWhile-kept (λ office. ¬ (g.O.CarryOut.is_closed office)) g.O.CarryOut.is_clean
+          g.O.CarryOut.is_closed g.O.CarryOut.stands_at g.O.CarryOut.leaves
           _ _ _ _ _ c.loop.invariant c.turn.ensures.answered) c.answer_all.ensures.value)
           shut c.answer_late.ensures.value c.finish-then-closed.ensures.answered;
     }
 
 pub loop-preserved : goal.loop-preserved
 loop-preserved g c =
-    ServesAll-after g.O.CarryOut.is_clean g.O.CarryOut.is_closed g.O.CarryOut.stands_at g.O.CarryOut.leaves _ _ _ _ _ _
-    (ServesAll-kept g.O.CarryOut.is_clean g.O.CarryOut.is_closed g.O.CarryOut.stands_at g.O.CarryOut.leaves
-    _ _ _ _ _ c.loop.invariant c.turn.ensures.answered) c.answer_all.ensures.value
+    AnswersWhile-after (λ office. ¬ (g.O.CarryOut.is_closed office)) g.O.CarryOut.is_clean g.O.CarryOut.is_closed
+    g.O.CarryOut.stands_at g.O.CarryOut.leaves _ _ _ _ _ _
+    (AnswersWhile-kept (λ office. ¬ (g.O.CarryOut.is_closed office)) g.O.CarryOut.is_clean g.O.CarryOut.is_closed
+    g.O.CarryOut.stands_at g.O.CarryOut.leaves _ _ _ _ _ c.loop.invariant c.turn.ensures.answered)
+    c.answer_all.ensures.value
 
 pub returns : goal.returns
 returns g c = record {
