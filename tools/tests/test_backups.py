@@ -249,13 +249,18 @@ def drops_what_is_under_way(folder):
 # ---- the program
 
 
+REPORTED = [f"r{at}" for at in range(3000)]  # packages that each report moves, all of them at once
+
+
 class Load:
-    """Clients that write to an office, and what was answered to them: the names that were entered."""
+    """Clients that write to an office, one of them reports that move many records, and what was answered to the others:
+    the names that were entered."""
 
     def __init__(self, port):
         self.port, self.ends, self.lock = port, threading.Event(), threading.Lock()
         self.entered, self.faults = set(), []
-        self.threads = [threading.Thread(target=self.work, args=(number,)) for number in range(CLIENTS)]
+        works = [self.report, *[self.enter] * (CLIENTS - 1)]
+        self.threads = [threading.Thread(target=self.work, args=one) for one in enumerate(works)]
 
     def __enter__(self):
         for thread in self.threads:
@@ -267,20 +272,27 @@ class Load:
         for thread in self.threads:
             thread.join()
 
-    def work(self, number):
+    def work(self, number, step):
         try:
             for at in itertools.count():
                 if self.ends.is_set():
                     return
-                name = f"p{number}-{at}"
-                named = {"arch": "amd64", "source": name, "version": "1.0"}
-                self.post("enter", **named, priority="optional", section="devel")
-                with self.lock:
-                    self.entered.add(name)
-                self.post("fail", **named, note="x" * 900)
-                self.post("give-back", **named)
+                step(number, at)
         except Exception as why:  # noqa: BLE001
             self.faults.append(f"{type(why).__name__}: {why}")
+
+    def enter(self, number, at):
+        name = f"p{number}-{at}"
+        named = {"arch": "amd64", "source": name, "version": "1.0"}
+        self.post("enter", **named, priority="optional", section="devel")
+        with self.lock:
+            self.entered.add(name)
+        self.post("fail", **named, note="x" * 900)
+        self.post("give-back", **named)
+
+    def report(self, _number, at):
+        said = "installable" if at % 2 else f"uninstallable {'x' * 900}"
+        self.post("report", arch="amd64", text="".join(f"{name} 1.0 {said}\n" for name in REPORTED))
 
     def post(self, name, **body):
         said = ask(self.port, "POST", f"/v1/{name}", body)
@@ -293,14 +305,17 @@ def accepted_by(office):
 
 def backs_up_under_load(folder):
     """20 clients write while backups are made, and the log is copied into the database meanwhile: nothing is stopped,
-    and each backup has all that was answered before it began, and nothing that came after it ended."""
+    each backup has all that was answered before it began, and nothing that came after it ended, and of a report all or
+    nothing."""
     with Trial(folder) as office:
         office.fill()
+        office.do("run", stdin=office.lines([f"enter amd64 {name} 1.0 optional devel" for name in REPORTED]))
         office.do("start")
         process, again, begun, spent = office.server(), 0, [], []
         with Load(office.port) as load:
-            end = time.monotonic() + 12
-            while time.monotonic() < end or not begun:
+            end = time.monotonic() + 8
+            while time.monotonic() < end or not any(begun):
+                expect(time.monotonic() < end + WAIT, "the log was never begun anew beside a backup")
                 time.sleep(0.2)
                 with load.lock:
                     entered = set(load.entered)
@@ -315,6 +330,9 @@ def backs_up_under_load(folder):
                 with opened(saved) as copy:
                     accepted = copy.execute("SELECT accepted FROM office").fetchone()[0]
                     names = {name for name, in copy.execute("SELECT source FROM source_record")}
+                    of_reports = "SELECT count(*) FROM source_record WHERE source GLOB 'r[0-9]*' GROUP BY state"
+                    moved = copy.execute(of_reports).fetchall()
+                expect(moved == [(len(REPORTED),)], f"a part of a report is there: {moved}")
                 expect(before <= accepted <= after, f"{accepted} is not from {before} to {after}")
                 expect(entered <= names, f"answered, and not there: {sorted(entered - names)[:5]}")
                 expect_opens(saved, accepted, len(names))

@@ -650,7 +650,7 @@ def speaks_with_systemd(folder):
             office.do("start", env=path)
             office.do("start", env=path, wanted=1)
             expect("active" in office.do("status", env=path)[0], "it is not active")
-            office.do("backup", env=path, wanted=1)
+            expect("while it is served" in office.do("backup", env=path)[1], "a backup of what systemd serves")
             (folder / "asked").unlink()
             office.do("merge", *lists_of(folder, "hello"), env=path)
             asked = [line for line in (folder / "asked").read_text().splitlines() if not line.startswith("show")]
