@@ -248,8 +248,7 @@ class Office:
         return made
 
     # Only the program can say whether two copied files are an office, and an opening writes: so it opens a copy of the
-    # copy. A copy while the program runs might tear the two files apart; a snapshot of the file system is as after a
-    # power cut.
+    # copy.
     def name_copy(self, made: Path) -> Path:
         """Opens a copy of the copy, gives the copy its name only then, and answers it. The service may run
         meanwhile."""
