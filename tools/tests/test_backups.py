@@ -27,9 +27,10 @@ from wb_tools.office.files import DATABASE, LOG, Files, read_sums, sum_of, write
 from wb_tools.office.settings import Refusal
 
 CLIENTS = 20
-# Writes in a process of its own: each transaction adds one to both rows of a table and grows a second table.
+# Writes in a process of its own: each transaction adds one to both rows of a table and grows a second table. It rests
+# between them, as a copy on a busy machine may take longer than it takes to fill the log.
 WRITER = """
-import sqlite3, sys
+import sqlite3, sys, time
 database = sqlite3.connect(sys.argv[1], isolation_level=None)
 database.execute("PRAGMA locking_mode=EXCLUSIVE")
 database.execute("PRAGMA journal_mode=WAL")
@@ -46,6 +47,7 @@ for n in range(1, 10**9):
     database.execute("UPDATE counted SET n = n + 1 WHERE id = 2")
     database.execute("COMMIT")
     print(n, flush=True)
+    time.sleep(0.001)
 """
 
 
@@ -113,7 +115,12 @@ def copies_what_is_written(folder):
             place = folder / str(number)
             place.mkdir()
             before = writer.said
-            sums = copies.copy_written(writer.files, place, again.append)
+            try:
+                sums = copies.copy_written(writer.files, place, again.append)
+            except Refusal:  # each of its copies was slower than the writer
+                shutil.rmtree(place)
+                expect(time.monotonic() < end + WAIT, f"the log was begun anew {len(again)} times")
+                continue
             time.sleep(0.05)  # for what it said to be heard
             after = writer.said
             write_sums(place, sums)
