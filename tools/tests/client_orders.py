@@ -7,6 +7,7 @@ them, with nothing before them that was sent after they were answered, nor after
 sent. Of commands without an answer, as after a kill, those stand that the counts and the records of the office show.
 """
 import asyncio
+import contextlib
 import json
 import random
 from dataclasses import dataclass, field
@@ -87,12 +88,10 @@ class Load:
         async with connected(self.port) as link:
             one.sent = self.now()
             self.exchanges.append(one)
-            try:
+            with contextlib.suppress(ConnectionError):  # what was answered before a reset can still be read
                 for part in parts_of(bytes_of(one), chance):
                     await send(link, part)
                     await asyncio.sleep(0)
-            except ConnectionError:
-                return
             answer = await asyncio.wait_for(rest(link), WAIT)
         one.begun = int(answer[9:12]) if len(answer) > 11 else None
         head, _, body = answer.partition(b"\r\n\r\n")
