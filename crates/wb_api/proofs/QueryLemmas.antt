@@ -1,7 +1,9 @@
 -- What the objects of records and of counts are printed as.
-use Rattle.std.proofs.Common.{◌≡◌, ◌∙◌, ap, append_assoc, append-nil, ℕ, List, [], ◌++◌, codes, true, false, refl, sym}
+use Rattle.std.proofs.Common.{◌≡◌, ◌∙◌, ap, append_assoc, append-nil, ℕ, List, [], ◌∷◌}
+use Rattle.std.proofs.Common.{◌++◌, codes, true, false, refl, sym}
 use Rattle.std.specs.Prelude.{Bool, Option, None, Some, ℤ, pos, negsuc, decimal}
 use Rattle.std.specs.Fmt.{signed_decimal}
+use Rattle.std.specs.List.{concat}
 use Rattle.json.specs.Print.{quoted}
 use Rattle.serde_json.specs.Data.{boolean, string}
 use Rattle.serde_json.specs.Find.{is_float, of_integer}
@@ -92,17 +94,25 @@ compact_text-string text = refl
 pub ruleset printing_of_texts = (has_float-string, compact_text-string)
 
 -- what was written piece by piece
-regroup : (a b c d e : List ℕ) → (((a ++ b) ++ c) ++ d) ++ e ≡ a ++ (b ++ (c ++ (d ++ (e ++ []))))
+regroup : (a b c d e : List ℕ) → (((a ++ b) ++ c) ++ d) ++ e ≡ concat (a ∷ b ∷ c ∷ d ∷ e ∷ [])
 regroup a b c d e = simp (append_assoc, append-nil)
 
+-- what is written of a list: what comes first, a text, a key, the list, and what comes last
+written : (first text key list last begun keyed listed ended : List ℕ) → begun ≡ first ++ text → keyed ≡ begun ++ key
+    → listed ≡ keyed ++ list → ended ≡ listed ++ last → ended ≡ concat (first ∷ text ∷ key ∷ list ∷ last ∷ [])
+written first text key list last begun keyed listed ended one two three four =
+    four ∙ ap (λ x. x ++ last) (three ∙ ap (λ x. x ++ list) (two ∙ ap (λ x. x ++ key) one))
+    ∙ regroup first text key list last
+
 -- what is written of what a builder holds
-pub mine_written : (builder begun keyed listed ended : List ℕ) (rows : List KeyedRecord) → begun ≡ codes "{\"builder\":" ++ quoted builder
+pub mine_written : (builder begun keyed listed ended : List ℕ) (rows : List KeyedRecord)
+    → begun ≡ codes "{\"builder\":" ++ quoted builder
     → keyed ≡ begun ++ codes ",\"records\":[" → listed ≡ keyed ++ records_text rows → ended ≡ listed ++ codes "]}"
     → ended ≡ query_text (Mine builder rows)
 unfolding query_text
-mine_written builder begun keyed listed ended rows one two three four =
-    four ∙ ap (λ x. x ++ codes "]}") (three ∙ ap (λ x. x ++ records_text rows) (two ∙ ap (λ x. x ++ codes ",\"records\":[") one))
-    ∙ regroup (codes "{\"builder\":") (quoted builder) (codes ",\"records\":[") (records_text rows) (codes "]}")
+mine_written builder begun keyed listed ended rows =
+    written (codes "{\"builder\":") (quoted builder) (codes ",\"records\":[") (records_text rows) (codes "]}")
+    begun keyed listed ended
 
 -- what the object of what a source package needs is printed as
 pub has_float-value_of_depends : (arch source : List ℕ) (depends : Option (List ℕ)) → has_float (value_of_depends arch source depends) ≡ false
@@ -171,17 +181,15 @@ pub archs_written : (accepted : ℕ) (begun keyed listed ended : List ℕ) (arch
     → keyed ≡ begun ++ codes ",\"archs\":[" → listed ≡ keyed ++ archs_text archs → ended ≡ listed ++ codes "]}"
     → ended ≡ query_text (Archs accepted archs)
 unfolding query_text
-archs_written accepted begun keyed listed ended archs one two three four =
-    four ∙ ap (λ x. x ++ codes "]}") (three ∙ ap (λ x. x ++ archs_text archs) (two
-    ∙ ap (λ x. x ++ codes ",\"archs\":[") one))
-    ∙ regroup (codes "{\"accepted\":") (decimal accepted) (codes ",\"archs\":[") (archs_text archs) (codes "]}")
+archs_written accepted begun keyed listed ended archs =
+    written (codes "{\"accepted\":") (decimal accepted) (codes ",\"archs\":[") (archs_text archs) (codes "]}")
+    begun keyed listed ended
 
 pub builders_written : (accepted : ℕ) (begun keyed listed ended : List ℕ) (pairs : List Key)
     → begun ≡ codes "{\"accepted\":" ++ decimal accepted
     → keyed ≡ begun ++ codes ",\"builders\":[" → listed ≡ keyed ++ pairs_text pairs → ended ≡ listed ++ codes "]}"
     → ended ≡ query_text (Builders accepted pairs)
 unfolding query_text
-builders_written accepted begun keyed listed ended pairs one two three four =
-    four ∙ ap (λ x. x ++ codes "]}") (three ∙ ap (λ x. x ++ pairs_text pairs) (two
-    ∙ ap (λ x. x ++ codes ",\"builders\":[") one))
-    ∙ regroup (codes "{\"accepted\":") (decimal accepted) (codes ",\"builders\":[") (pairs_text pairs) (codes "]}")
+builders_written accepted begun keyed listed ended pairs =
+    written (codes "{\"accepted\":") (decimal accepted) (codes ",\"builders\":[") (pairs_text pairs) (codes "]}")
+    begun keyed listed ended

@@ -2,7 +2,7 @@
 use Rattle.std.proofs.Common.{◌∙◌, ◌++◌, refl, ℕ, suc, true, false, List, [], ◌∷◌, codes}
 use Rattle.std.specs.Prelude.{Bool, Option, None, Some, ℤ, pos, negsuc, decimal}
 use Rattle.std.specs.Fmt.{signed_decimal}
-use Rattle.std.specs.List.{flat_map}
+use Rattle.std.specs.List.{flat_map, join_by}
 use Rattle.json.specs.Print.{quoted}
 use Rattle.deb_text.specs.Lines.{IsOneLine}
 use Rattle.wb_states.specs.Moves.{build_text_of}
@@ -58,16 +58,21 @@ fields_text-one arch source current =
 record_text-one : (row : KeyedRecord) → IsOneLine (record_text row)
 record_text-one row = fields_text-one row.arch row.source row.current
 
--- texts of one line with commas between them
+-- texts of one line, each behind a comma
 joined-one : {X : Type 0} (text : X → List ℕ) → ((row : X) → IsOneLine (text row))
     → (rows : List X) → IsOneLine (flat_map (λ row. codes "," ++ text row) rows)
 joined-one text one [] = refl
 joined-one text one (row ∷ rows) = behind (text row) _ (one row) ∙ joined-one text one rows
 
+-- texts of one line with commas between them
+list-one : {X : Type 0} (text : X → List ℕ) → ((row : X) → IsOneLine (text row))
+    → (rows : List X) → IsOneLine (join_by text (codes ",") rows)
+list-one text one [] = refl
+list-one text one (row ∷ rows) = behind (text row) _ (one row) ∙ joined-one text one rows
+
 records_text-one : (rows : List KeyedRecord) → IsOneLine (records_text rows)
 unfolding records_text
-records_text-one [] = refl
-records_text-one (row ∷ rows) = behind (record_text row) _ (record_text-one row) ∙ joined-one record_text record_text-one rows
+records_text-one = list-one record_text record_text-one
 
 waiting_text-one : (row : KeyedRecord) → IsOneLine (waiting_text row)
 unfolding waiting_text
@@ -77,8 +82,7 @@ waiting_text-one row =
 
 queue_text-one : (rows : List KeyedRecord) → IsOneLine (queue_text rows)
 unfolding queue_text
-queue_text-one [] = refl
-queue_text-one (row ∷ rows) = behind (waiting_text row) _ (waiting_text-one row) ∙ joined-one waiting_text waiting_text-one rows
+queue_text-one = list-one waiting_text waiting_text-one
 
 arch_text-one : (arch : List ℕ × OsCpu) → IsOneLine (arch_text arch)
 unfolding arch_text
@@ -88,9 +92,7 @@ arch_text-one arch =
 
 archs_text-one : (archs : List (List ℕ × OsCpu)) → IsOneLine (archs_text archs)
 unfolding archs_text
-archs_text-one [] = refl
-archs_text-one (arch ∷ archs) = behind (arch_text arch) _ (arch_text-one arch)
-    ∙ joined-one arch_text arch_text-one archs
+archs_text-one = list-one arch_text arch_text-one
 
 pair_text-one : (pair : Key) → IsOneLine (pair_text pair)
 unfolding pair_text
@@ -98,9 +100,7 @@ pair_text-one pair = behind (quoted pair.1) _ (quoted-one pair.1) ∙ behind (qu
 
 pairs_text-one : (pairs : List Key) → IsOneLine (pairs_text pairs)
 unfolding pairs_text
-pairs_text-one [] = refl
-pairs_text-one (pair ∷ pairs) = behind (pair_text pair) _ (pair_text-one pair)
-    ∙ joined-one pair_text pair_text-one pairs
+pairs_text-one = list-one pair_text pair_text-one
 
 counts_text-one : (counts : StateCounts) → IsOneLine (counts_text counts)
 unfolding counts_text

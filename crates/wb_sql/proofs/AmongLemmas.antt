@@ -29,9 +29,7 @@ use Rattle.wb_sql.specs.Among.{table_at, query_at, HasTable, AsksAmong, InsertsA
 use Rattle.wb_sql.proofs.SelectForm.{parsed, where_of}
 use Rattle.wb_sql.proofs.ShownLemmas.{outputs_after}
 use Rattle.wb_sql.proofs.CompiledLemmas.{compiled_of, compiled_is, understood_is, unlisted_is}
-use Rattle.wb_sql.proofs.SelectLemmas.{Test, AreTests, IsSelect, IsSelectBy, IsTyped, asked, asked_by, asked_is}
-use Rattle.wb_sql.proofs.SelectLemmas.{asked_by_is, IsTypedFromZero, suffices_for, term_of, terms_from_zero, test_of}
-use Rattle.wb_sql.proofs.SelectLemmas.{typed_from_zero, where_from_zero}
+use Rattle.wb_sql.proofs.SelectLemmas.{Test, AreTests, IsSelect, IsTyped, asked, asked_is, suffices_for, term_of, test_of}
 use Rattle.wb_sql.proofs.ChangeLemmas.{base_of, rowids, change_is, insert_timed, insert_returns, insert_is, replace_is, delete_is, delete_returns, delete_timed}
 
 -- a text that was compiled to a command, with these parameters and nothing after it, without RETURNING and without the time, means that command
@@ -104,53 +102,6 @@ asks_among table sql q is = asks_by table sql q (record {
   reads =
       λ schema tree has. asked_is schema (table_at tree table) is.statement is.columns is.tests is.order is.limit has
       (is.select_is tree) (is.typed tree)
-      ∙ ap (λ b. Ok (does.Select (record {
-        lets =
-            [];
-        body = b;
-      }) (map (λ o. o.name) (outputs_after (table_at tree table) [] is.columns)))) (is.asks tree);
-})
-
--- the text, which has so many parameters, is a SELECT of these columns of the table, where one column equals a
--- parameter and another is at least 0, in this order and with this
--- limit, which is what the query asks
-pub record IsQueryFromZero (table : Table) (sql : List ℕ) (q : TableQuery) (count : ℕ) : Type 0 where
-  pub columns : List (ℕ × Column)
-  pub equal : Test
-  pub from_zero : ℕ × Column
-  pub order : List (ℕ × Column)
-  pub limit : Term
-  pub statement : Select
-  pub names : List (List ℕ)
-  pub start : ℕ
-  pub stop : ℕ
-  pub tail : ℕ
-  pub ends : nat_le (length sql) tail ≡ true
-  pub counted : length names ≡ count
-  pub first_is : first sql ≡ Ok (parsed (written.Select statement) names start stop tail)
-  pub select_is : (tree : ℕ)
-      → IsSelectBy (table_at tree table) statement columns (where_from_zero equal from_zero) order limit
-  pub typed : (tree : ℕ) → IsTypedFromZero (table_at tree table) columns equal from_zero order limit
-  pub asks : (tree : ℕ)
-      → drafted (asked_by (table_at tree table) columns (terms_from_zero
-      (table_at tree table) equal from_zero) order limit) ≡ query_of (query_at tree q)
-
-pub asks_from_zero : (table : Table) (sql : List ℕ) (q : TableQuery) {count : ℕ} → IsQueryFromZero table sql q count
-    → AsksAmong table sql q count
-asks_from_zero table sql q is = asks_by table sql q (record {
-  shown = λ tree. map (λ o. o.name) (outputs_after (table_at tree table) [] is.columns);
-  statement = is.statement;
-  names = is.names;
-  start = is.start;
-  stop = is.stop;
-  tail = is.tail;
-  ends = is.ends;
-  counted = is.counted;
-  first_is = is.first_is;
-  reads = λ schema tree has.
-      asked_by_is schema (table_at tree table) is.statement is.columns (where_from_zero is.equal is.from_zero)
-      (terms_from_zero (table_at tree table) is.equal is.from_zero) is.order is.limit
-      has (is.select_is tree) (typed_from_zero (is.typed tree))
       ∙ ap (λ b. Ok (does.Select (record {
         lets =
             [];

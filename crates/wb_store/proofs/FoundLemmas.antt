@@ -22,7 +22,7 @@ use Rattle.wb_states.specs.declared.record.Record.{Record}
 use Rattle.wb_states.specs.Limits.{count_limit}
 use Rattle.wb_states.specs.Machine.{Key, Machine, IsConsistent, IsRecord}
 use Rattle.wb_states.specs.Queue.{Entry, queue_of, head_of}
-use Rattle.wb_states.specs.Holds.{is_taken_as, is_held_by, taken_as}
+use Rattle.wb_states.specs.Holds.{is_taken_as, taken_as}
 use Rattle.wb_states.proofs.QueueLemmas.{IsIn-entries}
 use Rattle.wb_states.specs.declared.keyed.KeyedRecord.{KeyedRecord}
 use Rattle.wb_states.specs.declared.state.State.{State}
@@ -35,7 +35,7 @@ use Rattle.wb_store.specs.declared.format.Format.{Format}
 use Rattle.wb_store.specs.declared.format.Format.TheVariants.{Two}
 use Rattle.wb_store.specs.Schemas.{row_in}
 use Rattle.wb_store.specs.Stands.{HasCountsOf, StandsWith}
-use Rattle.wb_store.specs.Lookups.{AreCounts, keyed_cells}
+use Rattle.wb_store.specs.Lookups.{AreCounts, is_held_with_take, keyed_cells}
 use Rattle.wb_store.proofs.OrderLemmas.{all_from_in, entry_at, map_injective, first_of-take_one}
 use Rattle.wb_store.proofs.LookupLemmas.{key_params, key_answer, arch_answer, state_params, state_answer, held_answer, queue_params, queue_answer, head_answer, take_answer}
 
@@ -114,12 +114,12 @@ module _ (machine : Machine) {scratch : Scratch} (db : Database) (stands : Stand
     state_found arch state given a =
         entries_are rows _ (state_answer machine db stands _ arch state (subst (λ p. Answers sql.records_in_state p (rows_in db tables.source_record) (map keyed_cells rows)) given a))
 
-    -- what a builder holds
-    pub held_found : IsConsistent machine → (builder : List ℕ) → params ≡ Text builder ∷ []
+    -- what a builder holds with take numbers
+    pub held_found : (builder : List ℕ) → params ≡ Text builder ∷ []
         → Answers sql.held_by params (rows_in db tables.source_record) (map keyed_cells rows)
-        → map entry_of rows ≡ filter (is_held_by builder) (finite.entries machine.records)
-    held_found sound builder given a =
-        entries_are rows _ (held_answer machine db stands _ sound builder (subst (λ p. Answers sql.held_by p
+        → map entry_of rows ≡ filter (is_held_with_take builder) (finite.entries machine.records)
+    held_found builder given a =
+        entries_are rows _ (held_answer machine db stands _ builder (subst (λ p. Answers sql.held_by p
         (rows_in db tables.source_record) (map keyed_cells rows)) given a))
 
     -- the queue

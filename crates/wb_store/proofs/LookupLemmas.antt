@@ -41,7 +41,7 @@ use Rattle.wb_rows.specs.Reading.{IsReadable}
 use Rattle.wb_rows.specs.Scratch.{name_cells}
 use Rattle.wb_store.specs.Merging.{Scratch}
 use Rattle.wb_store.specs.Stands.{StandsWith}
-use Rattle.wb_store.specs.Lookups.{AreRecords}
+use Rattle.wb_store.specs.Lookups.{AreRecords, is_held_with_take}
 use Rattle.wb_store.proofs.EqualLemmas.{are_equal, and_true, then_none, nat_eq-turned, equal-Text, equal-number}
 use Rattle.wb_store.proofs.EqualLemmas.{equal-text_or_null, equal-number_or_null, from_zero-number_or_null}
 use Rattle.wb_store.proofs.EqualLemmas.{is_from_zero, order-number}
@@ -108,7 +108,7 @@ taken_passes : (take_number : ℕ) (entry : Entry) → entry_passes sql.record_o
 taken_passes take_number entry = and_true _ ∙ equal-number_or_null entry.1.take take_number
 
 held_passes : (builder : List ℕ) (entry : Entry)
-    → entry_passes sql.held_by (Text builder ∷ []) entry ≡ (is_held_by builder entry && is_some entry.1.take)
+    → entry_passes sql.held_by (Text builder ∷ []) entry ≡ is_held_with_take builder entry
 held_passes builder entry =
     ap₂ ◌&&◌ (equal-text_or_null entry.1.holder builder) (and_true (is_from_zero (number_or_null entry.1.take))
     ∙ from_zero-number_or_null entry.1.take)
@@ -204,18 +204,16 @@ module _ (machine : Machine) where
       let is : IsRecord machine entry.0.0 entry.0.1 entry.1 = subst (λ found. IfSome found (IsRecord machine entry.0.0 entry.0.1)) kept (sound.records entry.0.0 entry.0.1) in
       is.fields
 
-  -- what a builder holds is what passes the tests of its query, if the office is consistent
-  held_kept : IsConsistent machine → (builder : List ℕ)
-      → filter (is_held_by builder) entries ≡ filter (entry_passes sql.held_by (Text builder ∷ [])) entries
-  held_kept sound builder =
-      filter_same_each (is_held_by builder) (entry_passes sql.held_by (Text builder
-      ∷ [])) entries (all_from_in _ entries each)
+  -- in a consistent office all that a builder holds has a take number
+  pub held_whole : IsConsistent machine → (builder : List ℕ)
+      → filter (is_held_with_take builder) entries ≡ filter (is_held_by builder) entries
+  held_whole sound builder =
+      filter_same_each (is_held_with_take builder) (is_held_by builder) entries (all_from_in _ entries each)
     where
-      each : (entry : Entry) → IsIn entry entries
-          → is_held_by builder entry ≡ entry_passes sql.held_by (Text builder ∷ []) entry
+      each : (entry : Entry) → IsIn entry entries → is_held_with_take builder entry ≡ is_held_by builder entry
       each entry within =
           let fits = (well_formed sound entry ((IsIn-entries machine entry).0 within)).state in
-          sym (held_passes builder entry ∙ with_take builder entry.1.holder entry.1.take _ fits.held fits.taken)
+          with_take builder entry.1.holder entry.1.take _ fits.held fits.taken
 
   -- the records of an architecture ascend by their source packages
   arch_ascends : (arch : List ℕ) → IsAscending (λ x y. IsBefore sql.records_of_arch (Text arch ∷ []) (record_cells x) (record_cells y)) (filter (is_of arch) entries)
@@ -242,12 +240,12 @@ module _ (machine : Machine) where
       follows a b is_a is_b less = text_order a.0.1 b.0.1 ∙ second_less a.0 b.0 (of_arch a is_a ∙ sym (of_arch b is_b)) less
 
   -- what a builder holds ascends by the keys
-  held_ascends : (builder : List ℕ) → IsAscending (λ x y. IsBefore sql.held_by (Text builder ∷ []) (record_cells x) (record_cells y)) (filter (is_held_by builder) entries)
+  held_ascends : (builder : List ℕ) → IsAscending (λ x y. IsBefore sql.held_by (Text builder ∷ []) (record_cells x) (record_cells y)) (filter (is_held_with_take builder) entries)
   held_ascends builder =
-      ascending_with (λ e. is_held_by builder e ≡ true) (λ a b. pair_cmp a.0 b.0 ≡ Less) _ follows (filter (is_held_by builder) entries) (kept_pass (is_held_by builder) entries)
-      (ascending-filter (λ (a b : Entry). pair_cmp a.0 b.0 ≡ Less) (is_held_by builder) entries ascend)
+      ascending_with (λ e. is_held_with_take builder e ≡ true) (λ a b. pair_cmp a.0 b.0 ≡ Less) _ follows (filter (is_held_with_take builder) entries) (kept_pass (is_held_with_take builder) entries)
+      (ascending-filter (λ (a b : Entry). pair_cmp a.0 b.0 ≡ Less) (is_held_with_take builder) entries ascend)
     where
-      follows : (a b : Entry) → is_held_by builder a ≡ true → is_held_by builder b ≡ true → pair_cmp a.0 b.0 ≡ Less
+      follows : (a b : Entry) → is_held_with_take builder a ≡ true → is_held_with_take builder b ≡ true → pair_cmp a.0 b.0 ≡ Less
           → ordering_then (value_cmp (Text a.0.0) (Text b.0.0)) (ordering_then (value_cmp (Text a.0.1) (Text b.0.1)) Equal) ≡ Less
       follows a b is_a is_b less = ap₂ ordering_then (value_cmp-Text a.0.0 b.0.0) (text_order a.0.1 b.0.1) ∙ less
 
@@ -340,14 +338,15 @@ module _ (machine : Machine) {scratch : Scratch} (db : Database) (stands : Stand
       (filter (is_of arch) kept) (arch_ascends machine arch) (IsPermutation-same _ _ (filter_same (is_of arch) _
       (λ e. sym (arch_passes arch e)) kept))
 
-  -- what a builder holds, by the keys
-  pub held_answer : IsConsistent machine → (builder : List ℕ)
+  -- what a builder holds with take numbers, by the keys
+  pub held_answer : (builder : List ℕ)
       → Answers sql.held_by (Text builder ∷ []) (rows_in db tables.source_record) answer
-      → answer ≡ map record_cells (filter (is_held_by builder) kept)
-  held_answer sound builder a =
-      rising_answer record_cells sql.held_by (Text builder ∷ []) (skips_holder (Text builder ∷ [])) (λ e. refl) refl kept (rows_in db tables.source_record) answer stands.records a
-      (filter (is_held_by builder) kept) (held_ascends machine builder) (IsPermutation-same _ _
-      (held_kept machine sound builder)) refl
+      → answer ≡ map record_cells (filter (is_held_with_take builder) kept)
+  held_answer builder a =
+      rising_answer record_cells sql.held_by (Text builder ∷ []) (skips_holder (Text builder ∷ [])) (λ e. refl) refl kept
+      (rows_in db tables.source_record) answer stands.records a
+      (filter (is_held_with_take builder) kept) (held_ascends machine builder) (IsPermutation-same _ _
+      (filter_same (is_held_with_take builder) _ (λ e. sym (held_passes builder e)) kept)) refl
 
   -- the queue of an architecture
   pub queue_answer : IsConsistent machine → (arch : List ℕ) → Answers sql.queue_of (queue_params arch) (rows_in db tables.source_record) answer → answer ≡ map record_cells (queue_of machine arch)

@@ -1,5 +1,6 @@
 -- What each call of a merge in a transaction of the office leaves of its tables, and why it fails.
-use Rattle.std.proofs.Common.{◌≡◌, Bool, true, false, List, ◌∷◌, [], Option, None, Some, inl, inr, Result, Ok, Err, IfOk, IfErr, IfSome, IsErrAnd, OnOk, IsTrue, refl, sym, subst, ◌∙◌}
+use Rattle.std.proofs.Common.{◌≡◌, ◌≢◌, IsOk, Bool, true, false, List, ◌∷◌, [], Option, None, Some, inl, inr, Result}
+use Rattle.std.proofs.Common.{Ok, Err, IfOk, IfErr, IfSome, IsErrAnd, OnOk, IsTrue, refl, sym, subst, ◌∙◌}
 use Rattle.std.specs.Bool.{⊤}
 use Rattle.sqlite_trees.specs.declared.store.Store.{Ghosts}
 use Rattle.sqlite.specs.Effect.{Database}
@@ -13,7 +14,6 @@ use Rattle.sqlite.specs.Table as Table
 use Rattle.wb_sql.specs.Among.{HasOffice, names_office}
 use Rattle.wb_sql.specs.Savepoints.{GoesBack, IsAny, IsSaved, IsSavedAs, Releases, Saves, back_text, release_text, save_text}
 use Rattle.wb_states.specs.declared.store_fault.StoreFault.{StoreFault}
-use Rattle.wb_states.specs.declared.store_fault.StoreFault.TheVariants.{Memory}
 use Rattle.wb_states.specs.declared.store_fault.Table.{Table}
 use Rattle.wb_states.specs.declared.record.Record.{Record}
 use Rattle.wb_states.specs.declared.store_fault.Table.TheVariants.{SourceRecord}
@@ -23,6 +23,7 @@ use Rattle.wb_archive.specs.Tables.{Contents, HasFittingTake, Tables, back_at, w
 use Rattle.wb_store.specs.Calls.{BecomesWith, Changes, LooksUp}
 use Rattle.wb_store.specs.Faults.{unfit}
 use Rattle.wb_store.specs.MergeRuns.{AllTakesFit, FailsAfter, FailsAtCall, FailsIn, GoesOn, HasSavepoint, HasOtherSavepoints, HoldsContents, HoldsSome, HoldsTables, IsMerging, IsOfRecord, IsSavedWith, RunsOn, RunsTo, SavepointText, scratch_of}
+use Rattle.wb_store.specs.MergeLaws.{runs_itself}
 use Rattle.wb_store.specs.Merging.{Scratch}
 use Rattle.wb_store.specs.Others.{KeepsOthers}
 use Rattle.wb_store.specs.Queries.{OfficeQuery}
@@ -209,13 +210,6 @@ module _ {S A : Type 0} (g : Ghosts S) (is_saved : Bool) (old new : Held S) wher
                 (goes_on_unchanged (state g old) (state g new) same h.survives.limit),
           );
       savepoints = λ clean merging others has. other_savepoints_stay (state g old) (state g new) is_saved others (h.same clean (has_office is_saved (state g old) merging)).2 has;
-      survives = survives_merge g is_saved old new (λ db lacks merging. lacks (has_office is_saved (state g old) merging)) h.survives;
-    }
-
-    pub listed_in_vain : {found : A} → LooksUpScratch g query Answer old new (Ok found) → FailsIn g is_saved old new Memory
-    listed_in_vain h = record {
-      cause = λ clean merging inside.
-          fails_here g is_saved old new Memory merging (inr (inr (inr (inl (query, inr (inl (refl, h.same clean (has_office is_saved (state g old) merging))))))));
       survives = survives_merge g is_saved old new (λ db lacks merging. lacks (has_office is_saved (state g old) merging)) h.survives;
     }
 
@@ -475,3 +469,90 @@ module _ {S A : Type 0} (g : Ghosts S) (old new : Held S) where
     savepoints = λ clean merging others has. (h.ok clean (needs_saved g old new merging)).marks others has.0 has.1;
     survives = survives_merge g true old new (λ db lacks merging. lacks (needs_saved g old new merging)) h.survives;
   })
+
+-- ---- a call on the savepoint that does nothing where the savepoint is set, or is not
+
+nothing_runs : {S : Type 0} (g : Ghosts S) (old new : Held S) (is_saved : Bool) → new ≡ old
+    → RunsOn g is_saved old is_saved new
+nothing_runs {S} g old new is_saved same =
+    subst (λ (h : Held S). RunsOn g is_saved old is_saved h) (sym same) (runs_itself g is_saved old)
+
+nothing_fails : {A : Type 0} (P : StoreFault → Type 0) (r : Result A StoreFault) → IsOk r → IfErr r P
+nothing_fails P (Ok x) is = tt
+nothing_fails P (Err fault) is = absurd (let same = is in cc)
+
+-- where there is no savepoint, none was saved
+unsaved : (s : State) (saved : Option Contents) → HasSavepoint false saved s → saved ≡ None
+unsaved s None has = refl
+unsaved s (Some saved) has = absurd has
+
+module _ {S A : Type 0} (g : Ghosts S) (old new : Held S) where
+  -- it is set only once
+  pub saves_holds : (was_saved is_saved : Bool) (r : Result A StoreFault) → OnOk r (is_saved ≡ true)
+      → (was_saved ≡ false → CallsPart g save_text IsAny Saves old new r) → (tables : Tables)
+      → HasCleanDisk (state g new) → HoldsTables was_saved tables (state g old) → tables.saved ≡ None
+      → OnOk r (HoldsTables is_saved (with_savepoint tables) (state g new))
+  saves_holds false is_saved r noted calls tables clean holds none = save_holds g old new is_saved r noted (calls refl)
+      clean tables holds
+  saves_holds true is_saved r noted calls tables clean holds none =
+      absurd (subst (λ o. HasSavepoint true o (state g old)) none holds.saved)
+
+  pub saves_runs : (was_saved is_saved : Bool) (r : Result A StoreFault) → OnOk r (is_saved ≡ true)
+      → (was_saved ≡ false → CallsPart g save_text IsAny Saves old new r)
+      → (was_saved ≡ true → IsOk r × (new ≡ old)) → OnOk r (RunsOn g was_saved old is_saved new)
+  saves_runs false is_saved r noted calls stays = save_runs g old new is_saved r noted (calls refl)
+  saves_runs true is_saved (Ok x) noted calls stays =
+      subst (λ b. RunsOn g true old b new) (sym noted) (nothing_runs g old new true (stays refl).1)
+  saves_runs true is_saved (Err fault) noted calls stays = tt
+
+  pub saves_fails : (was_saved : Bool) (r : Result A StoreFault)
+      → (was_saved ≡ false → CallsPart g save_text IsAny Saves old new r)
+      → (was_saved ≡ true → IsOk r × (new ≡ old)) → IfErr r (FailsIn g was_saved old new)
+  saves_fails false r calls stays = save_fails g old new false r (calls refl)
+  saves_fails true r calls stays = nothing_fails _ r (stays refl).0
+
+  -- where none is set there is nothing to go back to
+  pub backs_holds : (is_saved : Bool) (r : Result A StoreFault)
+      → (is_saved ≡ true → CallsPart g back_text IsAny GoesBack old new r) → (tables : Tables) (saved : Contents)
+      → HasCleanDisk (state g new) → HoldsTables is_saved tables (state g old) → tables.saved ≡ Some saved
+      → OnOk r (HoldsTables is_saved (back_at saved tables) (state g new))
+  backs_holds true r calls tables saved clean holds is = back_holds g old new r (calls refl) clean tables saved holds is
+  backs_holds false r calls tables saved clean holds is =
+      absurd (subst (λ o. HasSavepoint false o (state g old)) is holds.saved)
+
+  pub backs_runs : (is_saved : Bool) (r : Result A StoreFault)
+      → (is_saved ≡ true → CallsPart g back_text IsAny GoesBack old new r)
+      → (is_saved ≡ false → IsOk r × (new ≡ old)) → OnOk r (RunsOn g is_saved old is_saved new)
+  backs_runs true r calls stays = back_runs g old new r (calls refl)
+  backs_runs false (Ok x) calls stays = nothing_runs g old new false (stays refl).1
+  backs_runs false (Err fault) calls stays = tt
+
+  pub backs_fails : (is_saved : Bool) (r : Result A StoreFault)
+      → (is_saved ≡ true → CallsPart g back_text IsAny GoesBack old new r)
+      → (is_saved ≡ false → IsOk r × (new ≡ old)) → IfErr r (FailsIn g is_saved old new)
+  backs_fails true r calls stays = back_fails g old new true r (calls refl)
+  backs_fails false r calls stays = nothing_fails _ r (stays refl).0
+
+  -- and none to give up
+  pub releases_holds : (was_saved is_saved : Bool) (r : Result A StoreFault) → OnOk r (is_saved ≡ false)
+      → (was_saved ≡ true → CallsPart g release_text IsSaved Releases old new r) → (tables : Tables)
+      → HasCleanDisk (state g new) → HoldsTables was_saved tables (state g old) → tables.saved ≢ None
+      → OnOk r (HoldsTables is_saved (without_savepoint tables) (state g new))
+  releases_holds true is_saved r noted calls tables clean holds some = release_holds g old new is_saved r noted
+      (calls refl) clean tables holds
+  releases_holds false is_saved r noted calls tables clean holds some =
+      absurd (some (unsaved (state g old) tables.saved holds.saved))
+
+  pub releases_runs : (was_saved is_saved : Bool) (r : Result A StoreFault) → OnOk r (is_saved ≡ false)
+      → (was_saved ≡ true → CallsPart g release_text IsSaved Releases old new r)
+      → (was_saved ≡ false → IsOk r × (new ≡ old)) → OnOk r (RunsOn g was_saved old is_saved new)
+  releases_runs true is_saved r noted calls stays = release_runs g old new is_saved r noted (calls refl)
+  releases_runs false is_saved (Ok x) noted calls stays =
+      subst (λ b. RunsOn g false old b new) (sym noted) (nothing_runs g old new false (stays refl).1)
+  releases_runs false is_saved (Err fault) noted calls stays = tt
+
+  pub releases_fails : (was_saved : Bool) (r : Result A StoreFault)
+      → (was_saved ≡ true → CallsPart g release_text IsSaved Releases old new r)
+      → (was_saved ≡ false → IsOk r × (new ≡ old)) → IfErr r (FailsIn g was_saved old new)
+  releases_fails true r calls stays = release_fails g old new r (calls refl)
+  releases_fails false r calls stays = nothing_fails _ r (stays refl).0

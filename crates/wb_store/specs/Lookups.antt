@@ -1,5 +1,7 @@
 -- What a query on one of the office's tables answers, and when what it answers is not read.
-use Rattle.std.specs.Prelude.{◌≡◌, ◌⊎◌, ℕ, ◌<◌, pos, List, [], ◌∷◌, length, map, Option, Result, Vec, IfOk, IfErr, OnOk, IsUtf8}
+use Rattle.std.specs.Prelude.{◌≡◌, ◌⊎◌, ℕ, ◌<◌, Bool, ◌&&◌, pos, List, [], ◌∷◌, length, map, filter, Option, is_some}
+use Rattle.std.specs.Prelude.{Result, Vec, IfOk, IfErr, OnOk, IsUtf8}
+use Rattle.std.specs.FinMap as finite
 use Rattle.std.specs.List.{AllByRecursion}
 use Rattle.std.specs.Option.{option_map}
 use Rattle.sqlite.specs.declared.types.Value.TheVariants.{Int}
@@ -10,14 +12,15 @@ use Rattle.sqlite.specs.Listing.{understood}
 use Rattle.sqlite.specs.Order.{Row, column}
 use Rattle.sqlite.specs.State.{State, HasCleanDisk, IsUnchanged, FailsToQuery, Survives}
 use Rattle.sqlite_trees.specs.declared.store.Store.{Ghosts}
-use Rattle.deb_text.specs.Lists.{first_of}
+use Rattle.deb_text.specs.Lists.{first_of, sorted_by}
 use Rattle.wb_sql.specs.Queries.{TableQuery, Asks, Answers}
 use Rattle.wb_sql.specs.Transactions.{IsKeptOrUndone}
 use Rattle.wb_states.specs.declared.arch.OsCpu.{OsCpu}
 use Rattle.wb_states.specs.declared.store_fault.StoreFault.{StoreFault}
 use Rattle.wb_states.specs.declared.store_fault.Table.{Table}
 use Rattle.wb_states.specs.declared.store_fault.Table.TheVariants.{SourceRecord}
-use Rattle.wb_states.specs.Machine.{Key}
+use Rattle.wb_states.specs.Machine.{Key, Machine, IsConsistent}
+use Rattle.wb_states.specs.Holds.{is_held_by, held_of, take_cmp}
 use Rattle.wb_states.specs.Queue.{Entry}
 use Rattle.wb_states.specs.declared.keyed.KeyedRecord.{KeyedRecord}
 use Rattle.wb_states.specs.declared.state.State.{State as BuildState}
@@ -114,6 +117,17 @@ pub record ReadsRecords {S X : Type 0} (g : Ghosts S) (sql : List ℕ) (params :
   pub same : HasCleanDisk (state g new) → IsPlain (understood old.schema sql) → OnOk result (IsUnchanged (state g old) (state g new))
   pub err : HasCleanDisk (state g new) → IsPlain (understood old.schema sql) → IfErr result (FailsToReadRecords sql params (state g old) (state g new))
   pub survives : Survives (state g old) (state g new) (λ _. ¬ IsPlain (understood old.schema sql))
+
+-- a record that the builder holds, and that has a take number
+abbrev pub is_held_with_take : List ℕ → Entry → Bool
+is_held_with_take builder entry = is_held_by builder entry && is_some entry.1.take
+
+-- these are the records that the builder holds, as far as they have a take number, by take number: in a consistent
+-- office all that it holds
+pub record AreHeld (machine : Machine) (builder : List ℕ) (entries : List Entry) : Type 0 where
+  pub with_take : entries
+      ≡ sorted_by take_cmp (filter (is_held_with_take builder) (finite.entries machine.records))
+  pub whole : IsConsistent machine → entries ≡ held_of machine builder
 
 -- the row of the counts, as a query answers it
 abbrev pub counts_row : ℕ → ℕ → Row

@@ -47,6 +47,11 @@ AreNames = AreRowsOf name_cells IsUtf8
 abbrev pub DistinctNames : List Row → List (List ℕ) → Type 0
 DistinctNames rows found = (names : List (List ℕ)) × (rows ≡ map name_cells names) × (found ≡ dedup bytes_eq names)
 
+-- these are the versions of the binary packages in the rows
+abbrev pub VersionsIn : List Row → List (List ℕ) → Type 0
+VersionsIn rows found =
+    (binaries : List BinaryRow) × (rows ≡ map binary_cells binaries) × (found ≡ map (λ binary. binary.version) binaries)
+
 -- each row of the merge can be read
 pub record AreReadable (scratch : Scratch) : Type 0 where
   pub sources : AllByRecursion IsReadableSource scratch.sources

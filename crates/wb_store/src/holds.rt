@@ -1,9 +1,8 @@
 //! The records that builders hold, as the tables have them.
-ghost use Rattle.std.specs.Prelude.{◌≡◌, map as each};
-ghost use Rattle.wb_states.specs.Holds.{held_of};
+ghost use Rattle.std.specs.Prelude.{map as each};
 ghost use Rattle.wb_states.specs.Lookups.{entry_of};
-ghost use Rattle.wb_states.specs.Machine.{IsConsistent};
 ghost use Rattle.wb_store.specs.Calls.{LooksUp};
+ghost use Rattle.wb_store.specs.Lookups.{AreHeld};
 ghost use Rattle.wb_store.specs.Queries as ask;
 
 use crate::reading::records;
@@ -14,14 +13,13 @@ use wb_sql::statements;
 use wb_states::{KeyedRecord, StoreFault};
 
 impl<S: Alter + Drop> Store<S> {
-    // They are found by the index of the take numbers (`statements::held_by`). So the answer is
-    // that
-    // of the state if no record has a holder and no take number, as in a consistent office
-    // (`FitsState`); an opening tests each row for that.
+    // They are found by the index of the take numbers (`statements::held_by`), so a record with a
+    // holder and no take number is left out. No consistent office has one (`FitsState`), and an
+    // opening tests each row for that.
     /// The records that the builder holds, of all architectures, by take number: none if it was never added.
     pub fn held_by(&mut self, builder: &Text) -> Result<Vec<KeyedRecord>, StoreFault>
         ensures looks_up { LooksUp S.Store (ask.HeldBy builder.now) (λ machine rows.
-            IsConsistent machine → each entry_of rows.items ≡ held_of machine builder.now)
+            AreHeld machine builder.now (each entry_of rows.items))
             self.old self.new result }
     {
         let mut rows = records(

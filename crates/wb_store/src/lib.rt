@@ -23,7 +23,6 @@ mod reading;
 mod records;
 mod refused;
 mod rows;
-mod savepoint;
 mod scratch;
 mod store;
 mod upgrading;

@@ -13,11 +13,12 @@
 ghost use Rattle.std.specs.Prelude.{◌≡◌, map as each};
 ghost use Rattle.std.specs.FinMap as map;
 ghost use Rattle.std.specs.Option.{option_map};
-ghost use Rattle.wb_states.specs.Holds.{held_of, taken_as};
+ghost use Rattle.wb_states.specs.Holds.{taken_as};
 ghost use Rattle.wb_states.specs.Lookups.{counts_of, entry_of, rows_of};
 ghost use Rattle.wb_states.specs.Machine.{IsConsistent, archs_of};
 ghost use Rattle.wb_states.specs.Queue.{head_of, queue_of};
 ghost use Rattle.wb_store.specs.Calls.{LooksUp};
+ghost use Rattle.wb_store.specs.Lookups.{AreHeld};
 ghost use Rattle.wb_store.specs.Noted.{KeepsMerge};
 ghost use Rattle.wb_store.specs.Queries as ask;
 
@@ -112,7 +113,7 @@ impl<S: Alter + Drop> Writing<'_, S> {
     /// sees what the transaction wrote.
     pub fn held_by(&mut self, builder: &Text) -> Result<Vec<KeyedRecord>, StoreFault>
         ensures looks_up { LooksUp S.Store (ask.HeldBy builder.now) (λ machine rows.
-            IsConsistent machine → each entry_of rows.items ≡ held_of machine builder.now)
+            AreHeld machine builder.now (each entry_of rows.items))
             self.old.store.now self.new.store.now result }
         ensures same_reference { self.new.store.ghost_name ≡ self.old.store.ghost_name }
         ensures same_merge { KeepsMerge self.old self.new }

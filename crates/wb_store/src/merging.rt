@@ -1,51 +1,25 @@
-//! The changes of the scratch tables of a merge, in a transaction. Each speaks of a database that stands for a state of the
-//! office with the rows of a merge, keeps the state, and makes it stand for the rows after the change. The fault of each is
-//! that of its statement, with its table: `Damaged` with row 0 also if the transaction is over. The caller then rolls back.
+//! How the rows of a merge are taken out of the scratch tables, in a transaction. Each speaks of a
+//! database that stands for a
+//! state of the office with the rows of a merge, keeps the state, and makes it stand for the rows
+//! after the change. The fault
+//! of each is that of its statement, with its table: `Damaged` with row 0 also if the transaction
+//! is over. The caller then
+//! rolls back.
 
 ghost use Rattle.std.specs.Prelude.{◌≡◌, ◌<◌, ◌^◌};
 ghost use Rattle.wb_store.specs.ScratchWrites as scratch;
 ghost use Rattle.wb_states.specs.declared.store_fault.Table.TheVariants.{ScratchBinary, ScratchSource};
-ghost use Rattle.wb_store.specs.Merging.{no_merge, without_binaries, without_sources};
+ghost use Rattle.wb_store.specs.Merging.{without_binaries, without_sources};
 ghost use Rattle.wb_store.specs.ScratchWrites.{ChangesScratch, ClearsScratch};
 
 use crate::fault::answer_on;
 use sqlite::{Alter, Connection, params};
-use wb_rows::{binary_values, source_values};
-use wb_sql::{delete, insert, scratch};
-use wb_states::{BinaryRow, SourceRow, StoreFault, Table};
-
-/// Adds a source package, whose place is below 2^63 and has none yet; all else stays. The fault is that of the statement
-/// on its table, also for a place that has one (this project's own).
-pub(crate) fn add_source<S: Alter>(
-    conn: &mut Connection<S>,
-    row: &SourceRow,
-) -> Result<(), StoreFault>
-    requires fits { row.now.seq < 2 ^ 63 }
-    ensures changes { ChangesScratch S.Store (scratch.AddsSource row.now) conn.old conn.new result }
-{
-    let answered = insert(conn, scratch::add_source(), &source_values(row));
-    answer_on(answered, Table::ScratchSource)
-}
-
-/// Adds a binary package, whose place is below 2^63 and has none yet; all else stays. The fault is that of the statement
-/// on its table, also for a place that has one (this project's own).
-pub(crate) fn add_binary<S: Alter>(
-    conn: &mut Connection<S>,
-    row: &BinaryRow,
-) -> Result<(), StoreFault>
-    requires fits { row.now.seq < 2 ^ 63 }
-    ensures changes { ChangesScratch S.Store (scratch.AddsBinary row.now) conn.old conn.new result }
-{
-    let answered = insert(conn, scratch::add_binary(), &binary_values(row));
-    answer_on(answered, Table::ScratchBinary)
-}
+use wb_sql::{delete, scratch};
+use wb_states::{StoreFault, Table};
 
 /// Removes the source packages up to a place, below 2^63; all else stays. The fault is that of the statement on their
 /// table (this project's own).
-pub(crate) fn remove_sources<S: Alter>(
-    conn: &mut Connection<S>,
-    place: u64,
-) -> Result<(), StoreFault>
+fn remove_sources<S: Alter>(conn: &mut Connection<S>, place: u64) -> Result<(), StoreFault>
     requires fits { place < 2 ^ 63 }
     ensures changes { ChangesScratch S.Store (scratch.RemovesSources place) conn.old conn.new result }
 {
@@ -55,10 +29,7 @@ pub(crate) fn remove_sources<S: Alter>(
 
 /// Removes the binary packages up to a place, below 2^63; all else stays. The fault is that of the statement on their
 /// table (this project's own).
-pub(crate) fn remove_binaries<S: Alter>(
-    conn: &mut Connection<S>,
-    place: u64,
-) -> Result<(), StoreFault>
+fn remove_binaries<S: Alter>(conn: &mut Connection<S>, place: u64) -> Result<(), StoreFault>
     requires fits { place < 2 ^ 63 }
     ensures changes { ChangesScratch S.Store (scratch.RemovesBinaries place) conn.old conn.new result }
 {
@@ -67,7 +38,7 @@ pub(crate) fn remove_binaries<S: Alter>(
 }
 
 /// Removes all source packages; all else stays. The fault is that of the statement on their table (this project's own).
-pub(crate) fn empty_sources<S: Alter>(conn: &mut Connection<S>) -> Result<(), StoreFault>
+fn empty_sources<S: Alter>(conn: &mut Connection<S>) -> Result<(), StoreFault>
     ensures changes { ChangesScratch S.Store scratch.ClearsSources conn.old conn.new result }
 {
     let answered = delete(conn, scratch::clear_sources(), &[]);
@@ -75,7 +46,7 @@ pub(crate) fn empty_sources<S: Alter>(conn: &mut Connection<S>) -> Result<(), St
 }
 
 /// Removes all binary packages; all else stays. The fault is that of the statement on their table (this project's own).
-pub(crate) fn empty_binaries<S: Alter>(conn: &mut Connection<S>) -> Result<(), StoreFault>
+fn empty_binaries<S: Alter>(conn: &mut Connection<S>) -> Result<(), StoreFault>
     ensures changes { ChangesScratch S.Store scratch.ClearsBinaries conn.old conn.new result }
 {
     let answered = delete(conn, scratch::clear_binaries(), &[]);
@@ -114,14 +85,4 @@ pub(crate) fn clear_sources<S: Alter>(conn: &mut Connection<S>, last: u64) -> Re
         remove_sources(conn, (piece + 1) * PLACES)?;
     }
     empty_sources(conn)
-}
-
-/// Removes all binary packages, and then all source packages, each in pieces up to the place `last`, below 2^63; all else
-/// stays. The fault is that of the statement that failed, on its table (this project's own).
-pub(crate) fn clear_scratch<S: Alter>(conn: &mut Connection<S>, last: u64) -> Result<(), StoreFault>
-    requires fits { last < 2 ^ 63 }
-    ensures clears { ClearsScratch S.Store ScratchBinary (λ _. no_merge) conn.old conn.new result }
-{
-    clear_binaries(conn, last)?;
-    clear_sources(conn, last)
 }

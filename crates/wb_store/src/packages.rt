@@ -1,75 +1,20 @@
-//! The source packages and the binary packages of a merge, as the scratch tables have them.
+//! The source packages and the binary packages of a merge, as the rows of the scratch tables have
+//! them.
 ghost use Rattle.std.specs.Prelude.{◌≡◌, IfOk, IfErr, map as each};
 ghost use Rattle.wb_rows.specs.Scratch.{binary_cells, source_cells};
 ghost use Rattle.wb_states.specs.declared.store_fault.Table.TheVariants.{ScratchBinary, ScratchSource};
 ghost use Rattle.wb_store.specs.Faults.{IsUnfit};
-ghost use Rattle.wb_store.specs.Merging as merge;
-ghost use Rattle.wb_store.specs.Queries as ask;
-ghost use Rattle.wb_store.specs.ScratchLookups.{AreBinaries, AreNames, AreSources, DistinctNames, HasBinary, HasSource, LooksUpScratch};
+ghost use Rattle.wb_store.specs.ScratchLookups.{AreBinaries, AreNames, AreSources, DistinctNames};
+ghost use Rattle.wb_store.specs.ScratchLookups.{HasBinary, HasSource, VersionsIn};
 
 use crate::fault::unfit;
-use crate::reading::{names_in, rows_of};
+use crate::reading::names_in;
 use deb_text::Text;
-use sqlite::{Alter, Connection, Row, params};
+use deb_version::Version;
+use sqlite::Row;
+use std::alloc::AllocError;
 use wb_rows::{binary_of, source_of};
-use wb_sql::scratch;
 use wb_states::{BinaryRow, SourceRow, StoreFault, Table};
-
-/// The names of the source packages, each once, by name.
-pub(crate) fn listed_names<S: Alter>(conn: &mut Connection<S>) -> Result<Vec<Text>, StoreFault>
-    ensures looks_up { LooksUpScratch S.Store ask.SourceNames (λ kept found.
-        merge.ListsNames kept.sources found.items) conn.old conn.new result }
-{
-    distinct_names_in(rows_of(conn, Table::ScratchSource, scratch::source_names(), &[])?)
-}
-
-/// The source packages of a name, by their place in the list.
-pub(crate) fn sources_named<S: Alter>(
-    conn: &mut Connection<S>,
-    name: &Text,
-) -> Result<Vec<SourceRow>, StoreFault>
-    ensures looks_up { LooksUpScratch S.Store (ask.SourcesNamed name.now) (λ kept found.
-        found.items ≡ merge.sources_named name.now kept) conn.old conn.new result }
-{
-    sources_in(rows_of(
-        conn,
-        Table::ScratchSource,
-        scratch::sources_named(),
-        params![name.as_str()],
-    )?)
-}
-
-/// The binary packages that were built from a source package, by their place in the list.
-pub(crate) fn binaries_of<S: Alter>(
-    conn: &mut Connection<S>,
-    source: &Text,
-) -> Result<Vec<BinaryRow>, StoreFault>
-    ensures looks_up { LooksUpScratch S.Store (ask.BinariesOf source.now) (λ kept found.
-        found.items ≡ merge.binaries_of source.now kept) conn.old conn.new result }
-{
-    binaries_in(rows_of(
-        conn,
-        Table::ScratchBinary,
-        scratch::binaries_of_source(),
-        params![source.as_str()],
-    )?)
-}
-
-/// The binary packages of a name, by their place in the list.
-pub(crate) fn versions_named<S: Alter>(
-    conn: &mut Connection<S>,
-    name: &Text,
-) -> Result<Vec<BinaryRow>, StoreFault>
-    ensures looks_up { LooksUpScratch S.Store (ask.BinariesNamed name.now) (λ kept found.
-        found.items ≡ merge.binaries_named name.now kept) conn.old conn.new result }
-{
-    binaries_in(rows_of(
-        conn,
-        Table::ScratchBinary,
-        scratch::binaries_named(),
-        params![name.as_str()],
-    )?)
-}
 
 /// The source package in a row. The table is damaged if the row is not that of one.
 fn source_in(row: &Row) -> Result<SourceRow, StoreFault>
@@ -80,7 +25,7 @@ fn source_in(row: &Row) -> Result<SourceRow, StoreFault>
 }
 
 /// The source packages in these rows. The table is damaged if a row is not that of one.
-fn sources_in(rows: Vec<Row>) -> Result<Vec<SourceRow>, StoreFault>
+pub(crate) fn sources_in(rows: Vec<Row>) -> Result<Vec<SourceRow>, StoreFault>
     ensures value { IfOk result (λ made. rows.items ≡ each source_cells made.items) }
     ensures err { IfErr result (IsUnfit ScratchSource (AreSources rows.items)) }
 {
@@ -100,7 +45,7 @@ fn binary_in(row: &Row) -> Result<BinaryRow, StoreFault>
 }
 
 /// The binary packages in these rows. The table is damaged if a row is not that of one.
-fn binaries_in(rows: Vec<Row>) -> Result<Vec<BinaryRow>, StoreFault>
+pub(crate) fn binaries_in(rows: Vec<Row>) -> Result<Vec<BinaryRow>, StoreFault>
     ensures value { IfOk result (λ made. rows.items ≡ each binary_cells made.items) }
     ensures err { IfErr result (IsUnfit ScratchBinary (AreBinaries rows.items)) }
 {
@@ -111,9 +56,30 @@ fn binaries_in(rows: Vec<Row>) -> Result<Vec<BinaryRow>, StoreFault>
     Ok(made)
 }
 
+/// The versions of packages, in their order.
+fn versions_of(rows: Vec<BinaryRow>) -> Result<Vec<Version>, AllocError>
+    ensures value { IfOk result (λ versions. versions.items ≡ each (λ row. row.version) rows.items) }
+{
+    let mut versions = Vec::new(*rows.allocator());
+    for row in rows {
+        versions.push(row.version)?;
+    }
+    Ok(versions)
+}
+
+/// The versions of the binary packages in these rows, in their order. The table is damaged if a row
+/// is not that of a package.
+pub(crate) fn versions_in(rows: Vec<Row>) -> Result<Vec<Version>, StoreFault>
+    ensures value { IfOk result (λ made. VersionsIn rows.items made.items) }
+    ensures err { IfErr result (IsUnfit ScratchBinary (AreBinaries rows.items)) }
+{
+    let packages = binaries_in(rows)?;
+    Ok(versions_of(packages)?)
+}
+
 /// The names in these rows, without each that is the same as the one before it. The table is damaged if a row is not that
 /// of a name.
-fn distinct_names_in(rows: Vec<Row>) -> Result<Vec<Text>, StoreFault>
+pub(crate) fn distinct_names_in(rows: Vec<Row>) -> Result<Vec<Text>, StoreFault>
     ensures value { IfOk result (λ made. DistinctNames rows.items made.items) }
     ensures err { IfErr result (IsUnfit ScratchSource (AreNames rows.items)) }
 {

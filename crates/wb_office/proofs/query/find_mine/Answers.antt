@@ -22,7 +22,7 @@ returns-clause-finds g c = finds_then (finds_looked_up (Ok _) c.in_ok-archs.ensu
     (λ machine sound archs held. (λ i. mine_with (c.in_ok-builder.ensures.cases i) (c.from-records.ensures i))
     ∙ mine-is machine c.args.builder.now c.in_ok-held_by.field-0.items
     (ap not (ap is_nonempty (sym (archs sound)) ∙ sym (ap not c.is_empty-is_unknown.ensures
-    ∙ counted-is_nonempty c.in_ok-archs.archs) ∙ ap not c.if-is_unknown.false)) (held sound))
+    ∙ counted-is_nonempty c.in_ok-archs.archs) ∙ ap not c.if-is_unknown.false)) (held.whole sound))
 
 pub returns-then-is_unknown-clause-finds : goal.returns-then-is_unknown-clause-finds
 returns-then-is_unknown-clause-finds g c = finds_from (finds_looked_up (Ok _) c.in_ok-archs.ensures.looks_up)

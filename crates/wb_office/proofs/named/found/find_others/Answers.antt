@@ -10,6 +10,6 @@ returns-in-Head g c =
     record {
       finds = finds_weaker c.held_by.result (finds_looked_up c.held_by.result c.held_by.ensures.looks_up)
           (λ machine rows sound is.
-          is sound ∙ held_again-some machine next.builder next.after (sym c.is_some.ensures ∙ c.if-is_some.true)
+          is.whole sound ∙ held_again-some machine next.builder next.after (sym c.is_some.ensures ∙ c.if-is_some.true)
           ∙ ap (others_named machine) (sym c.in-Head.is));
     }

@@ -1,18 +1,19 @@
-use Rattle.std.proofs.Common.{refl, subst}
-use Rattle.sqlite.specs.Held.{state}
-use Rattle.wb_archive.specs.Tables.{with_sources}
-use Rattle.wb_states.specs.declared.scratch.SourceRow.{SourceRow}
-use Rattle.wb_store.specs.MergeRuns.{HoldsTables}
-use Rattle.wb_store.proofs.MergeRunLemmas.{added_fails, added_holds, added_runs, handed_fault}
-use Rattle.wb_store.proofs.MergeAskLemmas.{added_last, new_last}
+use Rattle.std.proofs.Common.{sym, subst}
+use Rattle.wb_store.specs.ScratchWrites as write
+use Rattle.wb_store.specs.ScratchWrites.{ChangesScratch}
+use Rattle.wb_store.proofs.ReadLemmas.{handed_on}
+use Rattle.wb_store.proofs.ScratchChangeLemmas.{source_change}
 use Rattle.wb_store.proofs.merge_tables.WritingMergeTables.add_source.Goals as goal
 
-pub returns-in_err-add_source-clause-fails : goal.returns-in_err-add_source-clause-fails
-returns-in_err-add_source-clause-fails g c = rw (← c.store.view_is) (handed_fault _ c.from_residual.result c.from_residual.ensures.1 (refl, added_fails g.S.Store c.args.self.now.is_saved _ c.add_source.new.conn _ c.in_err-add_source.ensures.changes))
+pub returns-in_err-answer_on-clause-changes : goal.returns-in_err-answer_on-clause-changes
+returns-in_err-answer_on-clause-changes g c =
+    rw (← c.store.view_is) (subst (λ r. ChangesScratch g.S.Store (write.AddsSource c.args.row.now)
+    c.store.inside.conn c.insert-answered.new.conn r)
+    (sym (handed_on c.from_residual.result c.from_residual.ensures.1))
+    (source_change c.args.row.now c.add_source.ensures c.source_values.ensures.value c.insert-answered.ensures.runs
+    c.insert-answered.ensures.ok c.in_err-answer_on.ensures.value))
 
-pub returns-clause-value : goal.returns-clause-value
-returns-clause-value g c = rw (← c.store.view_is) (λ tables clean holds above. subst (λ rows. HoldsTables c.args.self.now.is_saved (with_sources rows tables) (state g.S.Store c.add_source.new.conn)) (added_last (λ (row : SourceRow). row.seq) c.args.row.now tables.now.sources above)
-    (added_holds g.S.Store c.args.self.now.is_saved _ c.add_source.new.conn _ c.in_ok-add_source.ensures.changes clean tables (new_last (λ (row : SourceRow). row.seq) c.args.row.now tables.now.sources above) holds))
-
-pub returns-clause-follows : goal.returns-clause-follows
-returns-clause-follows g c = rw (← c.store.view_is) (refl, added_runs g.S.Store c.args.self.now.is_saved _ c.add_source.new.conn _ c.in_ok-add_source.ensures.changes)
+pub returns-clause-changes : goal.returns-clause-changes
+returns-clause-changes g c = rw (← c.store.view_is)
+    (source_change c.args.row.now c.add_source.ensures c.source_values.ensures.value c.insert-answered.ensures.runs
+    c.insert-answered.ensures.ok c.in_ok-answer_on.ensures.value)

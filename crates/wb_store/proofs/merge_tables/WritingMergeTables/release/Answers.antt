@@ -1,18 +1,16 @@
-use Rattle.wb_store.proofs.MergeRunLemmas.{fault_with_same, release_fails, release_holds, release_runs, with_same}
+use Rattle.std.proofs.Common.{sym, subst}
+use Rattle.wb_sql.specs.Savepoints.{IsSaved, Releases, release_text}
+use Rattle.wb_store.specs.Savepoints.{CallsPart}
+use Rattle.wb_store.proofs.PartLemmas.{part_called}
+use Rattle.wb_store.proofs.ReadLemmas.{handed_on}
 use Rattle.wb_store.proofs.merge_tables.WritingMergeTables.release.Goals as goal
 
-pub returns-clause-value : goal.returns-clause-value
-returns-clause-value g c =
-    rw c.if-not-self.false (λ tables clean holds some. release_holds g.S.Store _ c.release.new.self.store.now
-    c.release.new.self.is_saved c.release.result c.release.ensures.kept.0 c.release.ensures.calls clean tables
-    holds)
+pub returns-in_err-answer_on-clause-calls : goal.returns-in_err-answer_on-clause-calls
+returns-in_err-answer_on-clause-calls g c saved =
+    rw (← c.store.view_is) (subst (λ r. CallsPart g.S.Store release_text IsSaved Releases c.store.inside.conn
+    c.release-answered.new.conn r) (sym (handed_on c.from_residual.result c.from_residual.ensures.1))
+    (part_called c.release-answered.ensures.runs c.in_err-answer_on.ensures.value))
 
-pub returns-clause-follows : goal.returns-clause-follows
-returns-clause-follows g c =
-    rw c.if-not-self.false (with_same _ c.release.result c.release.ensures.same_reference
-    (release_runs g.S.Store _ c.release.new.self.store.now c.release.new.self.is_saved c.release.result
-    c.release.ensures.kept.0 c.release.ensures.calls))
-
-pub returns-clause-fails : goal.returns-clause-fails
-returns-clause-fails g c = rw c.if-not-self.false (fault_with_same _ c.release.result c.release.ensures.same_reference
-    (release_fails g.S.Store _ c.release.new.self.store.now c.release.result c.release.ensures.calls))
+pub returns-clause-calls : goal.returns-clause-calls
+returns-clause-calls g c saved = rw (← c.store.view_is)
+    (part_called c.release-answered.ensures.runs c.in_ok-answer_on.ensures.value)

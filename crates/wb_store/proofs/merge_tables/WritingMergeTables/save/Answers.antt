@@ -1,17 +1,16 @@
-use Rattle.wb_store.proofs.MergeRunLemmas.{fault_with_same, save_fails, save_holds, save_runs, with_same}
+use Rattle.std.proofs.Common.{sym, subst}
+use Rattle.wb_sql.specs.Savepoints.{IsAny, Saves, save_text}
+use Rattle.wb_store.specs.Savepoints.{CallsPart}
+use Rattle.wb_store.proofs.PartLemmas.{part_called}
+use Rattle.wb_store.proofs.ReadLemmas.{handed_on}
 use Rattle.wb_store.proofs.merge_tables.WritingMergeTables.save.Goals as goal
 
-pub returns-clause-value : goal.returns-clause-value
-returns-clause-value g c = rw c.if-self.false
-    (λ tables clean holds none. save_holds g.S.Store _ c.save.new.self.store.now c.save.new.self.is_saved c.save.result
-    c.save.ensures.kept.0 c.save.ensures.calls clean tables holds)
+pub returns-in_err-answer_on-clause-calls : goal.returns-in_err-answer_on-clause-calls
+returns-in_err-answer_on-clause-calls g c saved =
+    rw (← c.store.view_is) (subst (λ r. CallsPart g.S.Store save_text IsAny Saves c.store.inside.conn
+    c.save-answered.new.conn r) (sym (handed_on c.from_residual.result c.from_residual.ensures.1))
+    (part_called c.save-answered.ensures.runs c.in_err-answer_on.ensures.value))
 
-pub returns-clause-follows : goal.returns-clause-follows
-returns-clause-follows g c =
-    rw c.if-self.false (with_same _ c.save.result c.save.ensures.same_reference
-    (save_runs g.S.Store _ c.save.new.self.store.now c.save.new.self.is_saved c.save.result c.save.ensures.kept.0
-    c.save.ensures.calls))
-
-pub returns-clause-fails : goal.returns-clause-fails
-returns-clause-fails g c = rw c.if-self.false (fault_with_same _ c.save.result c.save.ensures.same_reference
-    (save_fails g.S.Store _ c.save.new.self.store.now _ c.save.result c.save.ensures.calls))
+pub returns-clause-calls : goal.returns-clause-calls
+returns-clause-calls g c saved = rw (← c.store.view_is)
+    (part_called c.save-answered.ensures.runs c.in_ok-answer_on.ensures.value)

@@ -1,17 +1,30 @@
-use Rattle.std.proofs.Common.{refl, ap, map, ◌∙◌}
+use Rattle.std.proofs.Common.{[], ◌∷◌, ap, map, ◌∙◌}
+use Rattle.std.proofs.lemmas.Result.{IfOk-weaker}
+use Rattle.sqlite.specs.Held.{state}
 use Rattle.wb_states.specs.declared.scratch.BinaryRow.{BinaryRow}
-use Rattle.wb_store.proofs.MergeRunLemmas.{handed_fault, listed_fails, listed_in_vain, listed_runs, listed_value}
-use Rattle.wb_store.proofs.MergeAskLemmas.{versions_named}
+use Rattle.wb_store.specs.Queries as ask
+use Rattle.wb_store.specs.ScratchLookups.{AreBinaries}
+use Rattle.wb_store.proofs.FoundLemmas.{text_bound}
+use Rattle.wb_store.proofs.PackageLemmas.{looks_up_nothing, looks_up_rows, named_found, named_readable}
+use Rattle.wb_store.proofs.ReadLemmas.{asks_of, handed_on}
 use Rattle.wb_store.proofs.merge_tables.WritingMergeTables.versions_named.Goals as goal
 
-pub returns-in_err-rows-clause-fails : goal.returns-in_err-rows-clause-fails
-returns-in_err-rows-clause-fails g c = rw (← c.store.view_is) (handed_fault _ c.from_residual.result c.from_residual.ensures.1 (refl, listed_fails g.S.Store c.args.self.now.is_saved _ c.versions_named.new.conn _ c.in_err-rows.ensures.looks_up))
+pub returns-in_err-rows-clause-looks_up : goal.returns-in_err-rows-clause-looks_up
+returns-in_err-rows-clause-looks_up g c = rw (← c.store.view_is) (looks_up_nothing
+    (asks_of (ask.BinariesNamed c.args.name.now) tt c.binaries_named.ensures (ap (λ v. v
+    ∷ []) (text_bound c.params-to_sql.ensures c.as_str.ensures)))
+    c.in_err-rows.ensures.reads (handed_on c.from_residual.result c.from_residual.ensures.1))
 
-pub returns-in_err-versions_of-clause-fails : goal.returns-in_err-versions_of-clause-fails
-returns-in_err-versions_of-clause-fails g c = rw (← c.store.view_is) (handed_fault _ c.from_residual-in_err-versions_of.result c.from_residual-in_err-versions_of.ensures.1 (refl, listed_in_vain g.S.Store c.args.self.now.is_saved _ c.versions_named.new.conn c.in_ok-rows.ensures.looks_up))
-
-pub returns-clause-value : goal.returns-clause-value
-returns-clause-value g c = rw (← c.store.view_is) (λ tables clean holds. c.in_ok-versions_of.ensures.value ∙ ap (map (λ (row : BinaryRow). row.version)) (listed_value g.S.Store c.args.self.now.is_saved _ c.versions_named.new.conn _ c.in_ok-rows.ensures.looks_up clean tables holds) ∙ versions_named c.args.name.now tables.now.binaries)
-
-pub returns-clause-follows : goal.returns-clause-follows
-returns-clause-follows g c = rw (← c.store.view_is) (refl, listed_runs g.S.Store c.args.self.now.is_saved _ c.versions_named.new.conn _ c.in_ok-rows.ensures.looks_up)
+pub returns-clause-looks_up : goal.returns-clause-looks_up
+returns-clause-looks_up g c =
+    let db = (state g.S.Store c.store.inside.conn).now in
+    let rows = c.in_ok-rows.rows.items in
+    rw (← c.store.view_is) (looks_up_rows
+    (asks_of (ask.BinariesNamed c.args.name.now) tt c.binaries_named.ensures (ap (λ v. v
+    ∷ []) (text_bound c.params-to_sql.ensures c.as_str.ensures)))
+    (AreBinaries rows) c.versions_in.result c.in_ok-rows.ensures.reads
+    (λ machine scratch stands a. IfOk-weaker c.versions_in.result _ _
+    (λ made is. is.2 ∙ ap (map (λ (row : BinaryRow). row.version))
+    (named_found db stands rows c.args.name.now is.0 a is.1)) c.versions_in.ensures.value)
+    c.versions_in.ensures.err
+    (λ machine scratch readable stands a. named_readable db stands rows readable c.args.name.now a))
