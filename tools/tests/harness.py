@@ -181,15 +181,15 @@ def main(tests, at_once=1):
 def tried(name, test):
     """Whether a test passed, or none if it was left out, and what is printed of it."""
     name = f"{script().removeprefix('test_')}_{name}"
-    with tempfile.TemporaryDirectory() as folder:
-        try:
+    try:
+        with tempfile.TemporaryDirectory() as folder:
             more = test(Path(folder)) if inspect.signature(test).parameters else test()
-            return True, f"ok {name}" + (f"\n    {more}" if more else "")
-        except LeftOut as why:
-            return None, f"left out {name}: {why}"
-        except Exception as why:  # whatever it is, the other tests are run
-            type_of = "" if isinstance(why, Failure) else f"{type(why).__name__}: "
-            return False, f"failed {name}: {type_of}{why}"
+        return True, f"ok {name}" + (f"\n    {more}" if more else "")
+    except LeftOut as why:
+        return None, f"left out {name}: {why}"
+    except Exception as why:  # whatever it is, the other tests are run
+        type_of = "" if isinstance(why, Failure) else f"{type(why).__name__}: "
+        return False, f"failed {name}: {type_of}{why}"
 
 
 def shown(passed, text):

@@ -8,6 +8,7 @@ import re
 import select
 import shutil
 import subprocess
+import time
 
 from harness import BIN, LeftOut, expect
 
@@ -62,6 +63,18 @@ def browser():
     return found
 
 
+def forget(profile):
+    """Removes what a browser that has ended kept. Its other processes end after it, and write until then."""
+    end = time.monotonic() + WAIT
+    while profile.exists():
+        try:
+            shutil.rmtree(profile)
+        except OSError:
+            if time.monotonic() > end:
+                raise
+            time.sleep(0.05)
+
+
 def in_browser(folder, text, widths, script, *options):
     """What a function of JavaScript says of this page on screens of so many pixels; it is given the document."""
     shown = re.sub("<meta http-equiv[^>]*>", "", text)  # so that the frames may be looked into
@@ -74,6 +87,7 @@ def in_browser(folder, text, widths, script, *options):
     done = subprocess.run(
         [browser(), *words, f"file://{folder}/frames.html"], capture_output=True, timeout=4 * WAIT, check=False
     )
+    forget(folder / "browser")
     title = re.search("<title>(.*?)</title>", done.stdout.decode(), re.S)
     expect(title, f"the browser says {done.stdout[:300]} {done.stderr[-300:]}")
     found = json.loads(html.unescape(title[1]))

@@ -161,7 +161,7 @@ impl<S: Fn(u8) -> u8 + Drop> Store<S> {
         requires idle { ⊤ } ensures value { IfOk result (λ n. n ≡ codes "}") } { f(self) } }
 pub trait Tables { ghost kept : { Self → Type 0 } = { λ it. HasRows it };
     fn put(&mut self, row: [u8; 2]) ensures ok { kept self.new }; }
-impl<S> Tables for Store<S> { fn put(&mut self, row: [u8; 2]) {} }
+impl<S> Tables for Store<S> { fn put(&mut self, row: [u8; 2]) {} fn read(&self) ensures rows { HasRows self.now } {} }
 fn gone() -> u8 ensures value { result ≡ 0 } { 0 }
 """
 COMPARED = """\
@@ -173,11 +173,13 @@ store Store::open
     changed: ensures value
 store Store::put: a method of Tables
     went: ensures others
+store Store::read: new
+    came: ensures rows
 store Tables
     changed: ghost kept
 store Tables::put
     went: requires fits
-4 clauses went, 1 came, 2 changed, 2 are as they were
+4 clauses went, 2 came, 2 changed, 2 are as they were
 """
 
 

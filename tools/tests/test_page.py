@@ -116,6 +116,18 @@ def reads_several_journals(folder):
     page(folder, b"", "--journal", "none", "--journal", "journal", "answers", status=3, message="none: No such file")
 
 
+def says_before_when(folder):
+    """If the journal begins later than the office, what it does not name was there before its first line."""
+    journal = Journal(4)
+    take = journal.hand_out(on(11, "13:00:00"), "b7", "zlib", "1:1.4~rc1-1")
+    (folder / "journal").write_bytes(journal.data())
+    held = [record("hello", "Building", holder="b6", take=1), record("zlib", "Building", holder="b7", take=take)]
+    said = line(accepted=5, arch="amd64", counts=counts(Building=2))
+    said += line(arch="amd64", records=held, state="Building")
+    found = page_of(page(folder, said, "--journal", "journal")).tables["Who builds what"][0]
+    expect([row[3] for row in found[1:]] == ["before 2026-04-11 13:01", "2026-04-11 13:00"], f"{found}")
+
+
 UNKNOWN = (404, b'{"code":1,"refused":"UnknownArch"}')
 
 
@@ -272,7 +284,7 @@ def has_colors_that_are_seen():
 
 
 TESTS = [
-    parts_builds_from_uploads, has_numbers_beside_bars, reads_several_journals, shows_several_suites,
+    parts_builds_from_uploads, has_numbers_beside_bars, reads_several_journals, says_before_when, shows_several_suites,
     fits_phones_and_desks, says_in_red_that_it_is_old, has_colors_that_are_seen,
 ]
 if __name__ == "__main__":

@@ -1,13 +1,12 @@
 #!/usr/bin/env python3
 """Tests of the site (tools/bin/wb-web) over offices that the program serves, and over stand-ins: what stands on each
 page and in its JSON, how lists are sorted and parted, what is said if an office or a history is missing, slow or
-behind, that texts stay texts, and what each answer says of itself; and in a browser that no page is wider than a
-screen.
+behind, that texts stay texts, and what each answer says of itself.
 
     tools/tests/test_web.py [NAME..]     these tests, or all
 
 From the environment: WB is the program, ./wb of this repository where it is not set. Flask and waitress have to be
-installed, and for the test in a browser chromium: what lacks them is left out. All that is wanted was written by hand.
+installed: without them nearly all are left out. All that is wanted was written by hand.
 """
 import json
 import re
@@ -17,10 +16,10 @@ import time
 import xml.etree.ElementTree as ElementTree
 
 from harness import BIN, ROOT, expect, expect_none, free_port, main
-from look_runs import in_browser
+from serve_runs import Server
 from test_history import record
-from test_page import DARK, LIGHT, contrast
-from web_runs import Site, interpreter, odd_office, office, silent_office, update
+from test_page import contrast
+from web_runs import Site, dribbling_office, interpreter, odd_office, office, silent_office, update
 from wb_tools.style import STYLE
 
 ARCHS = ["add-arch amd64 linux amd64", "add-arch arm64 linux arm64", "add-builder b1 amd64", "add-builder a1 arm64"]
@@ -31,7 +30,6 @@ SOURCES = "Package: {}\nVersion: {}\nArchitecture: any\nBuild-Depends: {}\n\n"
 PATHS = ["/", "/package/hello", "/arch/amd64", "/arch/amd64/Failed", "/builder/b1", "/history", "/?q=hello"]
 PATHS.append("/?q=hello+zlib")
 MANY = 250  # packages of a list with three pages
-WIDTHS = (320, 390, 768, 1280)
 
 
 def lines_of_day():
@@ -341,6 +339,46 @@ def shows_what_it_has(folder):
         expect("none." in site.page("/arch/amd64/Failed").text and "none." in site.page("/history").text, "no lists")
 
 
+def shows_an_office_without_architectures(folder):
+    """An office that was just made has a first page that says so, and no page of an architecture."""
+    with Server(folder, "office.db") as served, Site(folder, SUITES=f"sid={served.port}") as site:
+        text = site.page("/").text
+        expect("Packages in each state: the office has no architecture." in text, text)
+        expect("no office answers" not in text, text)
+        for path in ("/arch/amd64", "/arch/amd64/Failed", "/package/hello", "/builder/b1"):
+            site.ask(path, 404)
+        expect("none." in site.page("/?q=hello").text, "a search in nothing")
+        expect(site.json("/index.json")["archs"]["rows"] == [], "its JSON")
+
+
+def waits_no_longer_than_it_says(folder):
+    """An office whose answer comes byte by byte, or never ends, gets no more than the time of a page."""
+    for body in (b'{"accepted":1,"arch":"amd64","counts":{}}', None):
+        with dribbling_office(body) as port, Site(folder, **settings(folder, port, WAIT="1")) as site:
+            begun = time.monotonic()
+            expect("does not answer within 1 seconds" in site.page("/arch/amd64", 504).text, f"{body}")
+            expect(time.monotonic() - begun < 20, "the site waits as long as its office likes")
+
+
+def says_before_when(folder):
+    """If the journal begins later than the office, or is cut off at its front, a page says before when a package came
+    into its state, and guesses no age."""
+    with day(folder) as served:
+        lines = (folder / "office.journal").read_text().splitlines(keepends=True)
+        late = next(at for at, line in enumerate(lines) if '"command":"give-back"' in line)
+        (folder / "late.journal").write_text("".join(lines[late:]))
+        update(folder, "late")
+        given = settings(folder, served.port, INDEXES=f"sid={folder}/late.journal.index")
+        with Site(folder, **given) as site:
+            amd64, arm64 = site.page("/package/hello").tables["Where it stands"]
+            expect(amd64["Since"].startswith("before 20") and re.match(r"\d{4}-", arm64["Since"]), f"{amd64} {arm64}")
+            rows = site.json("/package/hello.json")["records"]["rows"]
+            expect([row["since"]["is_exact"] for row in rows] == [False, True], f"{rows}")
+            expect(rows[0]["since"]["age"] is None, f"{rows[0]}")
+            listed = site.page("/arch/amd64/Built").tables["Built on amd64"]
+            expect(listed[0]["Since"] == amd64["Since"], f"{listed}")
+
+
 def follows_its_index(folder):
     """What happens while the site serves stands on its pages once the index has it."""
     with day(folder) as served, Site(folder, **settings(folder, served.port)) as site:
@@ -390,33 +428,7 @@ def lists_its_settings(folder):
         expect(re.search(rf"\b{key}\b", said) and re.search(rf"^\.B {key}$", page, re.M), f"{key} is not described")
 
 
-# ---- in a browser
-
-# How wide the page is, what stands out of it, and what tables and heads a reader of the screen is told.
-LOOK = """(page) => {
-  const cut = [...page.querySelectorAll("td, th, p, h1, h2, caption, li, a, input, button, svg")].filter((one) => {
-    const box = one.getBoundingClientRect();
-    const isHidden = one.closest(".skip, .hidden") || (one.closest("thead")?.getBoundingClientRect().width ?? 9) <= 1;
-    return box.width > 1 && !isHidden && (box.right > page.documentElement.clientWidth + 1 || box.left < -1);
-  }).map((one) => one.outerHTML.slice(0, 80));
-  const small = [...page.querySelectorAll("input, button")].filter((one) => one.getBoundingClientRect().height < 24);
-  return {wide: page.documentElement.scrollWidth, cut, small: small.length,
-    tables: page.querySelectorAll("[role=table] > caption").length,
-    named: [...page.querySelectorAll("input")].every((one) => one.type == "hidden" || one.labels.length)};
-}"""
-
-
-def fits_screens(folder):
-    """Nothing of a page is wider than the screen, in light and dark."""
-    with day(folder) as served, Site(folder, **settings(folder, served.port)) as site:
-        style = site.ask("/style.css")[1]
-        for at, path in enumerate((*PATHS, f"/package/{LONG}", "/nowhere")):
-            text = site.ask(path, 404 if path == "/nowhere" else 200)[1]
-            text = re.sub("<link rel=.stylesheet.[^>]*>", lambda _: f"<style>{style}</style>", text)
-            for width, met in zip(WIDTHS, in_browser(folder, text, WIDTHS, LOOK, (LIGHT, DARK)[at % 2]), strict=True):
-                amiss = met["cut"] or met["small"] or not met["named"] or met["wide"] > width
-                expect(not amiss and met["tables"] == text.count("<table"), f"{path} at {width}: {met}")
-    return f"{(len(PATHS) + 2) * len(WIDTHS)} screens"
+# ---- colors
 
 
 def has_texts_that_are_seen():
@@ -432,8 +444,9 @@ def has_texts_that_are_seen():
 TESTS = [
     shows_a_package, shows_where_all_stands, shows_a_builder, finds_packages, tells_what_happened,
     leads_to_the_logs_of_failures, sorts_and_parts_lists, keeps_texts_texts, says_what_its_answers_are,
-    has_links_that_lead_somewhere, says_what_is_missing, shows_what_it_has, follows_its_index,
-    takes_the_settings_that_it_says, lists_its_settings, fits_screens, has_texts_that_are_seen,
+    has_links_that_lead_somewhere, says_what_is_missing, shows_what_it_has, shows_an_office_without_architectures,
+    waits_no_longer_than_it_says, says_before_when, follows_its_index,
+    takes_the_settings_that_it_says, lists_its_settings, has_texts_that_are_seen,
 ]
 
 if __name__ == "__main__":

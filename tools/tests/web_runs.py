@@ -137,9 +137,33 @@ def silent_office():
 
 
 @contextlib.contextmanager
+def dribbling_office(body):
+    """A port where each answer comes byte by byte, five a second; without a body it has no end."""
+
+    def answer(handler):
+        handler.send_response(200)
+        handler.send_header("Content-Length", str(len(body or b"") or 10**6))
+        handler.end_headers()
+        with contextlib.suppress(OSError):
+            for byte in body or b"{" + b" " * 10**6:
+                handler.wfile.write(bytes([byte]))
+                time.sleep(0.2)
+
+    with stand_in(answer) as port:
+        yield port
+
+
+@contextlib.contextmanager
 def odd_office(body, status=200):
     """A port where each request is answered by these bytes."""
-    handler = type("Handler", (http.server.BaseHTTPRequestHandler,), {"do_GET": answer_with(body, status)})
+    with stand_in(answer_with(body, status)) as port:
+        yield port
+
+
+@contextlib.contextmanager
+def stand_in(answer):
+    """A port where a function answers each request."""
+    handler = type("Handler", (http.server.BaseHTTPRequestHandler,), {"do_GET": answer})
     handler.log_message = lambda *_: None
     with http.server.ThreadingHTTPServer(("127.0.0.1", 0), handler) as server:
         threading.Thread(target=server.serve_forever, args=(0.01,), daemon=True).start()

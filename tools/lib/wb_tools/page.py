@@ -7,7 +7,7 @@ from collections.abc import Iterator, Sequence
 from dataclasses import dataclass, field
 
 from wb_tools.answers import HELD, STATES, Answer, ByState, Queue, Record, Summary, counted, printable
-from wb_tools.index.asking import Index
+from wb_tools.index.asking import Index, Since
 from wb_tools.journal import day_of
 from wb_tools.style import AGE, AGE_HASH, STYLE
 
@@ -180,7 +180,12 @@ def held_cells(record: Record, index: Index | None) -> Iterator[str]:
     yield f'<td class="take">{record.take}</td>'
     if index is not None:
         since = index.since((record.arch, record.source), record.state, record.take)
-        yield f'<td class="since">{clock(since.at)}</td>' if since and since.is_exact else "<td></td>"
+        yield f'<td class="since">{since_text(since)}</td>' if since else "<td></td>"
+
+
+def since_text(since: Since) -> str:
+    """Since when a package is in its state, to the minute; or the end of that before which it was there already."""
+    return clock(since.at) if since.is_exact else f"before {clock(since.at + 59)}"
 
 
 def clock(at: int) -> str:

@@ -36,8 +36,8 @@ last answer to a query counts. An architecture without a `summary` is not shown.
 
 The queries are asked one after another, and the office may go on between them. The office keeps no times; with
 --journal, the file that `wb serve --journal FILE` writes, the page also shows since when each package is built, or was
-reported as built or uploaded, and how many were built on each day since the first line. A line of the journal that
-cannot be read is reported on standard error and left out."""
+reported as built or uploaded, or before when, if the journal begins later, and how many were built on each day since
+the first line. A line of the journal that cannot be read is reported on standard error and left out."""
 EXAMPLE = """  tools/bin/wb-status --url http://127.0.0.1:8080 --to /var/www/html/status.html
   tools/bin/wb-status --url http://127.0.0.1:8080 --arch amd64 --journal journal --to status.html
   tools/bin/wb-status --url sid=http://127.0.0.1:8080 --url experimental=http://127.0.0.1:8081 \\

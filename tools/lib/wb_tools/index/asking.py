@@ -109,6 +109,14 @@ def where(columns: Mapping[str, object]) -> tuple[str, list[object]]:
     return " AND ".join(["1", *(f"{name} = ?" for name in given)]), list(given.values())
 
 
+TIMES = ("at", "started")  # columns in the order of ids
+
+
+def marks(values: Sequence[object]) -> str:
+    """What stands for so many values in a statement."""
+    return ", ".join("?" * len(values))
+
+
 class Index:
     """An index to be asked."""
 
@@ -143,9 +151,30 @@ class Index:
         """What the journal says of a package, in the order of its lines."""
         return self.events("source = ? AND arch = ?", (key[1], key[0]), "ORDER BY id")
 
-    def latest(self, order: str, limit: int, offset: int, condition: str, values: Sequence[object]) -> list[Event]:
-        """So many events that meet a condition, in this order of columns."""
-        return self.events(condition, (*values, limit, offset), f"ORDER BY {order} LIMIT ? OFFSET ?")
+    def latest(self, limit: int, condition: str, values: Sequence[object]) -> list[Event]:
+        """So many events that meet a condition, the last first."""
+        return self.events(condition, (*values, limit), "ORDER BY id DESC LIMIT ?")
+
+    def places(
+        self, table: str, order: tuple[str, bool], part: tuple[int, int], condition: str, values: Sequence[object]
+    ) -> list[tuple[Any, int]]:
+        """Where the rows of a table stand that meet a condition, sorted by a column, the greatest first if that is
+        said, what has no value last: so many after so many others, each as its value and its id. The rows themselves
+        are not sorted: they are wide."""
+        column, is_down = order
+        down = "DESC" if is_down else "ASC"
+        by = f"id {down}" if column in TIMES else f"{column} IS NULL OR {column} = '', {column} {down}, id DESC"
+        statement = f"SELECT {column}, id FROM {table} WHERE {condition} ORDER BY {by} LIMIT ? OFFSET ?"
+        return list(self.rows(statement, (*values, *part)))
+
+    def events_of(self, ids: Sequence[int]) -> dict[int, Event]:
+        """The events of these ids."""
+        return {event.id: event for event in self.events(f"id IN ({marks(ids)})", ids)}
+
+    def builds_of(self, ids: Sequence[int]) -> dict[int, Build]:
+        """The builds of these ids."""
+        rows = self.rows(f"SELECT * FROM build WHERE id IN ({marks(ids)})", ids)
+        return {row[0]: Build(*row) for row in rows}
 
     def count(self, table: str, condition: str, values: Sequence[object]) -> int:
         """How many rows of a table meet a condition."""
@@ -204,9 +233,10 @@ class Index:
     def since_each(self, arch: str, state: str, takes: Mapping[str, int | None]) -> dict[str, Since | None]:
         """The same for each of the packages that the office has in a state, by name, with their take numbers."""
         last = self.doubts(arch, state)
+        unnamed = since_of(None, state, last)
         rows = self.rows("SELECT source, accepted, at, is_exact, state FROM package WHERE arch = ?", (arch,))
-        known = {row[0]: row[1:] for row in rows}
-        found = {name: since_of(known.get(name), state, last) for name in takes}
+        known = {row[0]: since_of(row[1:], state, last) for row in rows if row[0] in takes}
+        found = {name: known.get(name, unnamed) for name in takes}
         if state in HELD:
             rows = self.rows("SELECT take, max(id), at FROM event WHERE take IS NOT NULL AND state = ? GROUP BY take",
                              (state,))
@@ -217,9 +247,8 @@ class Index:
     def resting(self, states: Sequence[str], arch: str | None = None) -> Iterator[Resting]:
         """What the journal last saw in these states."""
         columns = ", ".join(f"event.{name}" for name in COLUMNS)
-        marks = ", ".join("?" * len(states))
         statement = f"SELECT package.accepted, package.at, is_exact, {columns} FROM package JOIN event ON id = event"
-        condition = f"package.state IN ({marks}) AND (? IS NULL OR package.arch = ?)"
+        condition = f"package.state IN ({marks(states)}) AND (? IS NULL OR package.arch = ?)"
         for row in self.rows(f"{statement} WHERE {condition} ORDER BY id", (*states, arch, arch)):
             event = Event(*row[3:])
             yield Resting((event.arch or "", event.source or ""), event, Since(row[1], bool(row[2])))
@@ -252,8 +281,11 @@ class Index:
 
     def last_heard(self) -> dict[str, int]:
         """When each builder last asked for a package or reported on one."""
-        rows = self.rows("SELECT builder, max(at) FROM event WHERE builder IS NOT NULL GROUP BY builder")
-        return dict(rows)
+        statement = """WITH RECURSIVE name(one) AS (SELECT min(builder) FROM event WHERE builder > '' UNION ALL
+          SELECT (SELECT min(builder) FROM event WHERE builder > one) FROM name WHERE one IS NOT NULL)
+          SELECT one, (SELECT at FROM event WHERE builder = one ORDER BY id DESC LIMIT 1) FROM name
+          WHERE one IS NOT NULL"""
+        return dict(self.rows(statement))
 
     def ends_by_day(self, since: int = 0) -> dict[str, dict[str, dict[str, int]]]:
         """How many builds ended well or failed on each day, by architecture and result."""

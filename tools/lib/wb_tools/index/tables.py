@@ -6,7 +6,7 @@ from pathlib import Path
 
 from wb_tools.lists import Refused
 
-FORM = 1  # of the tables; an index of another form is made anew
+FORM = 2  # of the tables; an index of another form is made anew
 BUSY = 30  # seconds for a program that writes the index at this moment
 
 # Times are seconds since 1970 in UTC. `accepted` is the count of accepted commands with that of the row.
@@ -81,7 +81,7 @@ CREATE INDEX package_state ON package(arch, state);
 CREATE INDEX package_source ON package(source);
 CREATE INDEX build_package ON build(source, arch);
 CREATE INDEX build_builder ON build(builder, arch);
-CREATE INDEX build_ended ON build(ended, result, arch);
+CREATE INDEX build_ended ON build(ended, result, arch, command);
 CREATE INDEX build_take ON build(take);
 CREATE INDEX import_arch ON import(arch, accepted);
 CREATE INDEX doubt_accepted ON doubt(accepted);

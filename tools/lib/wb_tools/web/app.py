@@ -26,6 +26,7 @@ HEADERS = {
     "Content-Security-Policy": POLICY, "X-Content-Type-Options": "nosniff", "Referrer-Policy": "no-referrer",
     "Cross-Origin-Resource-Policy": "same-origin", "Cache-Control": "no-cache",
 }
+HIDDEN = ("template", "title", "query", "archs_known")  # what only a template needs
 LONGEST = 8192  # bytes of an address
 FAULTS = {404: "There is no such page.", 405: "A page of this site is only read.", 414: "The address is too long."}
 
@@ -67,7 +68,9 @@ class Site:
 
     def __init__(self, settings: Settings) -> None:
         self.settings = settings
-        self.style = STYLE + (folder() / "static" / "site.css").read_text(encoding="utf-8")
+        static = folder() / "static"
+        self.style = STYLE + (static / "site.css").read_text(encoding="utf-8")
+        self.mark = (static / "mark.svg").read_text(encoding="utf-8")
 
     def shown(self, make: Callable[..., Page], *words: str) -> Response:
         """A page, or what stands on it if the address ends in .json."""
@@ -81,6 +84,7 @@ class Site:
             visit.close()
         query = "?" + request.query_string.decode(errors="replace") if request.query_string else ""
         page |= {"faults": list(map(str, visit.faults)), "notes": visit.notes, "now": now(), "query": query}
+        page["archs_known"] = visit.archs_heard()
         if is_json:
             return answered(jsonify(plain(page)), page["status"])
         return self.rendered(page)
@@ -89,6 +93,7 @@ class Site:
         name = page["template"]
         if page["status"] >= 400 and name.endswith(".html") and not page.get("is_shown"):
             name = "fault.html"
+        page.setdefault("archs_known", [arch for suite in self.settings.suites for arch in suite.archs])
         text = render_template(name, settings=self.settings, page=page)
         kind = "application/atom+xml" if name.endswith(".xml") else "text/html"
         return answered(Response(text, content_type=f"{kind}; charset=utf-8"), page["status"])
@@ -110,7 +115,7 @@ def now() -> int:
 
 def plain(page: Page) -> dict[str, Any]:
     """What stands on a page, without what only a template needs."""
-    return {key: without_links(value) for key, value in page.items() if key not in ("template", "title", "query")}
+    return {key: without_links(value) for key, value in page.items() if key not in HIDDEN}
 
 
 def without_links(value: Any) -> Any:
@@ -172,14 +177,16 @@ def create(settings: Settings) -> Flask:
 def add_pages(flask: Flask, site: Site) -> None:
     """The address of each page; each has another one, with .json at its end."""
 
-    def style() -> Response:
-        return Response(site.style, content_type="text/css; charset=utf-8")
+    def text(content: str, kind: str) -> Callable[[], Response]:
+        return lambda: Response(content, content_type=f"{kind}; charset=utf-8")
 
     def one(make: Callable[..., Page]) -> Callable[..., Response]:
         return lambda **words: site.shown(make, *words.values())
 
     rules: list[tuple[str, str, Callable[..., Response]]] = [
-        ("/", "front", site.front), ("/index.json", "front_json", site.front), ("/style.css", "style", style),
+        ("/", "front", site.front), ("/index.json", "front_json", site.front),
+        ("/style.css", "style", text(site.style, "text/css")),
+        ("/mark.svg", "mark", text(site.mark, "image/svg+xml")),
         ("/package/<name>", "package", one(pages.package)), ("/arch/<arch>", "arch", one(lists.arch)),
         ("/arch/<arch>/<state>", "state", one(lists.state)), ("/builder/<name>", "builder", one(lists.builder)),
         ("/history", "history", one(lists.history)), ("/history.json", "history_json", one(lists.history)),

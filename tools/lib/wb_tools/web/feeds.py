@@ -26,7 +26,7 @@ def feed(visit: Visit, title: str, condition: str, value: str) -> Page:
     for suite in visit.suites():
         with visit.of(suite):
             index = visit.index(suite)
-            found = index.latest("id DESC", ENTRIES, 0, condition, (value,)) if index else []
+            found = index.latest(ENTRIES, condition, (value,)) if index else []
             entries += entries_of(suite, found)
     entries = sorted(entries, key=lambda entry: entry["at"], reverse=True)[:ENTRIES]
     is_kept = any(visit.indexes.values())

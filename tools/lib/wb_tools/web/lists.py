@@ -12,12 +12,13 @@ from wb_tools.web.pages import (
     ARCH, BUILDER, BUILDS, EVENTS, PACKAGE, STATE, Page, build_row, event_row, log_of, record_row,
 )
 from wb_tools.web.settings import Suite
-from wb_tools.web.tables import ROWS, Column, Order, Row, listed, order_of, sort, table
+from wb_tools.web.tables import ROWS, Column, Order, Row, listed, order_of, places_in, sort, table
 from wb_tools.web.visit import Visit
 
 FILTERS = ("source", "arch", "builder", "by", "command")  # columns by which /history chooses
 FAILURES = ("Build-Attempted", "Failed")  # states of which a porter wants to see the log
-SORTED = {"at": "id", "started": "id", "build": "version"}  # columns of an index by which others are sorted
+FIELDS = {"builder": "holder", "priority": "build_priority"}  # of a record, by the columns that have another name
+COLUMNS = {"build": "version"}  # of an index, by which other columns of a page are sorted
 
 
 # ---- an architecture
@@ -67,14 +68,16 @@ def records_table(visit: Visit, suite: Suite, arch_name: str, name: str, found: 
     columns, caption, text = columns_of(name), f"{name} on {arch_name}", visit.args.get("q", "")
     chosen = [one for one in found if has_text(one, text)] if text else found
     order = order_of(visit.args, columns, columns[0].key)
-    if order.key == "source" and name != "Needs-Build":  # they come in the order of their names
-        part = (chosen[::-1] if order.is_down else chosen)[order.offset : order.offset + ROWS]
-        rows = closely(visit, [row_of(suite, one) for one in part])
-        return table(caption, columns, rows, len(chosen), order, visit.args)
-    rows = [row_of(suite, one) for one in chosen]
-    if name == "Needs-Build":
-        add_places(visit, suite, arch_name, rows)
-    return shown_of(visit, caption, columns, rows, order)
+    places = places_of(visit, suite, arch_name) if name == "Needs-Build" else {}
+    if order.key == "since":
+        values = times_of(visit, suite, arch_name, name, chosen)
+    elif order.key == "place":
+        values = [places.get(str(one.get("source"))) for one in chosen]
+    else:
+        values = [value_of(one, order.key) for one in chosen]
+    part = places_in(values, order.is_down)[order.offset : order.offset + ROWS]
+    rows = [row_of(suite, chosen[at]) | {"place": places.get(str(chosen[at].get("source")))} for at in part]
+    return table(caption, columns, closely(visit, rows), len(chosen), order, visit.args)
 
 
 def columns_of(name: str) -> list[Column]:
@@ -88,21 +91,17 @@ def columns_of(name: str) -> list[Column]:
     ]
 
 
+def value_of(found: dict[str, Any], key: str) -> object:
+    """What of a record stands in a column."""
+    if key == "note":
+        return found.get("note") or found.get("message")
+    return found.get(FIELDS.get(key, key)) or None
+
+
 def row_of(suite: Suite, found: dict[str, Any]) -> Row:
-    """What a record is sorted by, before it is looked at closely."""
-    row = {key: found.get(key) for key in ("source", "arch", "state", "build", "waits", "take")}
-    row |= {"suite": suite.name, "builder": found.get("holder"), "priority": found.get("build_priority") or None}
-    return row | {"note": found.get("note") or found.get("message"), "found": found, "of": suite}
-
-
-def shown_of(
-    visit: Visit, caption: str, columns: Sequence[Column], rows: list[Row], order: Order, name: str = ""
-) -> Row:
-    """A page of rows of records; those alone are looked at closely, unless they are sorted by time."""
-    if order.key == "since":
-        add_times(visit, rows)
-    part = sort(rows, order)[order.offset : order.offset + ROWS]
-    return table(caption, columns, closely(visit, part), len(rows), order, visit.args, name)
+    """A record as it is answered, and by what it is sorted."""
+    keys = ("source", "arch", "state", "build", "take", "builder")
+    return {key: value_of(found, key) for key in keys} | {"suite": suite.name, "found": found, "of": suite}
 
 
 def closely(visit: Visit, rows: list[Row]) -> list[Row]:
@@ -127,23 +126,19 @@ def has_text(found: dict[str, Any], text: str) -> bool:
     return not text or any(isinstance(place, str) and text.casefold() in place.casefold() for place in places)
 
 
-def add_places(visit: Visit, suite: Suite, arch_name: str, rows: list[Row]) -> None:
+def places_of(visit: Visit, suite: Suite, arch_name: str) -> dict[str, int]:
+    """The place of each package in a queue, of which the first is 1."""
     found = visit.ask(suite, "queue", arch_name)
-    places = {one.get("source"): at for at, one in enumerate(found["queue"], 1)} if found else {}
-    for row in rows:
-        row["place"] = places.get(row["source"])
+    return {str(one.get("source")): at for at, one in enumerate(found["queue"], 1)} if found else {}
 
 
-def add_times(visit: Visit, rows: list[Row]) -> None:
-    """Adds to rows of records since when each is in its state."""
-    groups: dict[tuple[Suite, str, str], dict[str, int | None]] = {}
-    for row in rows:
-        groups.setdefault((row["of"], str(row["arch"]), str(row["state"])), {})[str(row["source"])] = row["take"]
-    for (suite, arch_name, name), takes in groups.items():
-        index = visit.index(suite)
-        times = index.since_each(arch_name, name, takes) if index else {}
-        for row in (row for row in rows if (row["of"], row["arch"], row["state"]) == (suite, arch_name, name)):
-            row["since"] = visit.time_since(times.get(str(row["source"])))
+def times_of(visit: Visit, suite: Suite, arch_name: str, name: str, found: list[dict[str, Any]]) -> list[object]:
+    """Since when each of these records is in its state, in seconds."""
+    index = visit.index(suite)
+    takes = {str(one.get("source")): one.get("take") for one in found}
+    numbers = {source: take if type(take) is int else None for source, take in takes.items()}
+    times = index.since_each(arch_name, name, numbers) if index else {}
+    return [since.at if since else None for since in (times.get(str(one.get("source"))) for one in found)]
 
 
 # ---- a builder
@@ -185,7 +180,12 @@ def held_table(visit: Visit, rows: list[Row]) -> Row:
     )
     order = order_of(visit.args, columns, "-take", "h-")
     try:
-        return shown_of(visit, "What it holds", columns, rows, order, "h-")
+        if order.key == "since":
+            for row in rows:
+                key = str(row["arch"]), str(row["source"])
+                row["since"] = visit.since(row["of"], key, str(row["state"]), row["take"])
+        part = sort(rows, order)[order.offset : order.offset + ROWS]
+        return table("What it holds", columns, closely(visit, part), len(rows), order, visit.args, "h-")
     except Fault as fault:
         visit.faults.append(fault)
         visit.heard.clear()
@@ -201,25 +201,46 @@ def figure_rows(index: Index, suite: Suite, name: str) -> Iterator[Row]:
         yield row | {"median": median_of(took), "longest": max(took, default=None)}
 
 
-def in_order(order: Order) -> str:
-    key = SORTED.get(order.key, order.key)
-    down = " DESC" if order.is_down else ""
-    return f"{key}{down}" if key == "id" else f"{key} IS NULL, {key}{down}, id DESC"
+def page_of(
+    visit: Visit, name: str, order: Order, condition: str, values: Sequence[object]
+) -> tuple[list[Row], int]:
+    """The rows of `event` or `build` of the indexes that stand on a page of a list, and how many there are on all its
+    pages. Of several suites the first rows of each are sorted together."""
+    places: list[tuple[object, Suite, int]] = []
+    total, is_one = 0, len(visit.suites()) == 1
+    part = (ROWS, order.offset) if is_one else (order.offset + ROWS, 0)
+    for suite in visit.suites():
+        with visit.of(suite):
+            index = visit.index(suite)
+            if index:
+                column = COLUMNS.get(order.key, order.key)
+                found = index.places(name, (column, order.is_down), part, condition, values)
+                places += [(value, suite, key) for value, key in found]
+                total += index.count(name, condition, values)
+    if not is_one:
+        sorted_places = places_in([value for value, _, _ in places], order.is_down)
+        places = [places[at] for at in sorted_places[order.offset : order.offset + ROWS]]
+    rows = {suite: rows_of(visit, suite, name, [key for _, one, key in places if one == suite])
+            for suite in visit.suites()}
+    return [rows[suite][key] for _, suite, key in places if key in rows[suite]], total
+
+
+def rows_of(visit: Visit, suite: Suite, name: str, ids: list[int]) -> dict[int, Row]:
+    """Rows of `event` or `build` of an index, by their ids."""
+    with visit.of(suite):
+        index = visit.index(suite)
+        if index and name == "event":
+            return {key: event_row(suite, event) for key, event in index.events_of(ids).items()}
+        if index:
+            return {key: build_row(visit, suite, build) for key, build in index.builds_of(ids).items()}
+    return {}
 
 
 def builds_table(visit: Visit, name: str) -> Row:
     columns = [one for one in (PACKAGE, *BUILDS) if one.key not in ("builder", "log")]
     order = order_of(visit.args, columns, "-started")
-    rows, total = [], 0
-    for suite in visit.suites():
-        with visit.of(suite):
-            index = visit.index(suite)
-            if index:
-                total += index.count("build", "builder = ?", (name,))
-                more = f"ORDER BY {in_order(order)} LIMIT {order.offset + ROWS}"
-                rows += [build_row(visit, suite, build) for build in index.builds(more, builder=name)]
-    return table("Builds", visit.columns(*columns), sort(rows, order)[order.offset : order.offset + ROWS], total, order,
-                 visit.args)
+    rows, total = page_of(visit, "build", order, "builder = ?", (name,))
+    return table("Builds", visit.columns(*columns), rows, total, order, visit.args)
 
 
 # ---- all events
@@ -229,23 +250,15 @@ def history(visit: Visit) -> Page:
     """The last events of all, by package, architecture, builder, who gave the command, command and day."""
     columns = [EVENTS[0], PACKAGE, *EVENTS[1:]]
     order = order_of(visit.args, columns, "-at")
-    condition, values = chosen(visit)
-    rows, total = [], 0
     for suite in visit.suites():
         with visit.of(suite):
             visit.ask_accepted(suite)
-        with visit.of(suite):
-            index = visit.index(suite)
-            if index:
-                total += index.count("event", condition, values)
-                found = index.latest(in_order(order), order.offset + ROWS, 0, condition, values)
-                rows += [event_row(suite, event) for event in found]
-    shown = (sort(rows, order) if visit.is_of_several else rows)[order.offset : order.offset + ROWS]
+    rows, total = page_of(visit, "event", order, *chosen(visit))
     is_kept = any(visit.indexes.values())
     return {
         "template": "history.html", "title": "History", "status": 200 if is_kept else 503,
         "chosen": {key: visit.args.get(key, "") for key in (*FILTERS, "day")}, "is_kept": is_kept,
-        "events": table("Events, the last first", visit.columns(*columns), shown, total, order, visit.args),
+        "events": table("Events, the last first", visit.columns(*columns), rows, total, order, visit.args),
     }
 
 

@@ -1,15 +1,21 @@
 """Asks offices for a page of the site, within the time that the page has."""
 import functools
-import http.client
 import json
+import re
+import socket
 import time
+import urllib.parse
 from typing import Any
 
-from wb_tools.answers import STATES, WHOLE, Record, body_of, made, path_of
+from wb_tools.answers import STATES, WHOLE, Record, made, path_of
 from wb_tools.lists import Refused
 from wb_tools.web.settings import Suite
 
 STOPPED, SLOW, ODD = 503, 504, 502
+
+
+PART = 1 << 20  # bytes that are read at once
+LENGTH = re.compile(rb"\r\ncontent-length: *([0-9]{1,18})(?=\r\n|$)", re.I)
 
 
 class Fault(Exception):
@@ -18,6 +24,34 @@ class Fault(Exception):
     def __init__(self, suite: Suite, status: int, why: str) -> None:
         super().__init__(f"{suite.name}: {why}")
         self.status = status
+
+
+def left_until(end: float) -> float:
+    left = end - time.monotonic()
+    if left <= 0:
+        raise TimeoutError
+    return left
+
+
+def body_until(url: str, path: str, end: float) -> bytes:
+    """The body of an answer, which has to be whole by a moment; a ValueError if it is none. An office answers one
+    request a connection (docs/HTTP.md), and a page may ask it hundreds: http.client takes three times as long for
+    each, and knows no end of all its parts."""
+    parts = urllib.parse.urlsplit(url)
+    with socket.create_connection((parts.hostname, parts.port), left_until(end)) as link:
+        link.sendall(f"GET {path} HTTP/1.1\r\nHost: {parts.netloc}\r\nConnection: close\r\n\r\n".encode())
+        head, body = b"", bytearray()
+        while part := link.recv(PART):
+            body += part
+            if not head and b"\r\n\r\n" in body:
+                head, _, rest = bytes(body).partition(b"\r\n\r\n")
+                body, length = bytearray(rest), LENGTH.search(head)
+            if head and length and len(body) >= int(length[1]):
+                break
+            link.settimeout(left_until(end))
+    if not head.startswith(b"HTTP/1.") or length and len(body) != int(length[1]):
+        raise ValueError("this is no answer, or was cut off")
+    return bytes(body)
 
 
 class Known:
@@ -35,6 +69,11 @@ class Known:
         if found is None:
             raise self.is_older
         return found
+
+    @property
+    def heard(self) -> tuple[str, ...]:
+        """The architectures as far as the settings or an answer of the office have named them."""
+        return self.suite.archs or self.__dict__.get("archs", ())
 
     @functools.cached_property
     def builders(self) -> tuple[str, ...]:
@@ -73,16 +112,13 @@ class Asker:
             raise
 
     def answered(self, suite: Suite, query: str, words: tuple[str, ...]) -> dict[str, Any] | None:
-        left = self.end - time.monotonic()
         try:
-            if left <= 0:
-                raise TimeoutError
-            found = json.loads(body_of(suite.url, path_of(query, words), left))
+            found = json.loads(body_until(suite.url, path_of(query, words), self.end))
         except TimeoutError:
             raise Fault(suite, SLOW, f"the office does not answer within {self.wait:g} seconds") from None
         except OSError as why:
             raise Fault(suite, STOPPED, f"the office does not answer: {why.strerror or why}") from None
-        except (http.client.HTTPException, ValueError, RecursionError):
+        except (ValueError, RecursionError):
             raise Fault(suite, ODD, f"this is no answer of an office to {query}") from None
         if query in WHOLE and isinstance(found, dict) and found.get("http") == "NoRoute":
             return None

@@ -58,11 +58,16 @@ def rank(value: object) -> tuple[int, Any]:
     return (0, value) if isinstance(value, (int, float)) else (1, str(value))
 
 
-def sort(rows: list[Row], order: Order) -> list[Row]:
+def places_in(values: Sequence[object], is_down: bool) -> list[int]:
+    """Where each of these values stands, in their order; nothing comes last in either."""
+    ranks = list(map(rank, values))
+    there = sorted((at for at, one in enumerate(ranks) if one[0] < 2), key=ranks.__getitem__, reverse=is_down)
+    return there + [at for at, one in enumerate(ranks) if one[0] == 2]
+
+
+def sort(rows: Sequence[Row], order: Order) -> list[Row]:
     """The rows in an order; those without a value stay at the end."""
-    ranked = [(rank(row.get(order.key)), row) for row in rows]
-    there = sorted((one for one in ranked if one[0][0] < 2), key=lambda one: one[0], reverse=order.is_down)
-    return [row for _, row in there] + [row for found, row in ranked if found[0] == 2]
+    return [rows[at] for at in places_in([row.get(order.key) for row in rows], order.is_down)]
 
 
 def table(

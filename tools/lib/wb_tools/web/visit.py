@@ -61,6 +61,11 @@ class Visit:
     def known(self, suite: Suite) -> Known:
         return self.asker.known(suite)
 
+    def archs_heard(self) -> list[str]:
+        """The architectures of all suites that the settings name, or for which the page has asked."""
+        heard = [arch for suite in self.settings.suites for arch in self.known(suite).heard]
+        return list(dict.fromkeys(heard))
+
     def ask(self, suite: Suite, query: str, *words: str) -> dict[str, Any] | None:
         """What an office answers, or none if it refuses the query."""
         found = self.asker.ask(suite, query, *words)
