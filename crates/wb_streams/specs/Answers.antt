@@ -3,7 +3,9 @@ use Rattle.std.specs.Prelude.{ℕ, List, [], ◌∷◌, ◌++◌, length, codes,
 use Rattle.std.specs.Fmt.{decimal}
 use Rattle.std.specs.List.{concat}
 use Rattle.wb_streams.specs.declared.fault.Fault.{Fault}
-use Rattle.wb_streams.specs.declared.fault.Fault.TheVariants.{HeadTooLarge, BadHead, FromBrowser, NoRoute, WrongMethod, BadPath, NotSupported, NoLength, BadLength, BodyTooLarge, BodyCut, BadBody}
+use Rattle.wb_streams.specs.declared.fault.Fault.TheVariants.{HeadTooLarge, BadHead, FromBrowser, NoRoute}
+use Rattle.wb_streams.specs.declared.fault.Fault.TheVariants.{WrongMethod, BadPath, NotSupported, NoLength, BadLength}
+use Rattle.wb_streams.specs.declared.fault.Fault.TheVariants.{BodyTooLarge, BodyCut, BadBody, NoList}
 use Rattle.http.specs.StatusCode.{code_digits, reason_phrase}
 
 -- the phrase of a status, empty if it has none (RFC 9110, section 15; RFC 6585, section 5)
@@ -37,6 +39,7 @@ name_of_fault BadLength = codes "BadLength"
 name_of_fault BodyTooLarge = codes "BodyTooLarge"
 name_of_fault BodyCut = codes "BodyCut"
 name_of_fault BadBody = codes "BadBody"
+name_of_fault NoList = codes "NoList"
 
 -- the status of a fault (RFC 9110, section 15.5, and 15.6.2 for a transfer coding; RFC 6585, section 5, for a head that is too large)
 abbrev pub status_of_fault : Fault → ℕ
@@ -52,6 +55,7 @@ status_of_fault BadLength = 400
 status_of_fault BodyTooLarge = 413
 status_of_fault BodyCut = 400
 status_of_fault BadBody = 400
+status_of_fault NoList = 404
 
 -- the body of the answer to a fault: a JSON object (RFC 8259) with its name
 abbrev pub fault_text : Fault → List ℕ

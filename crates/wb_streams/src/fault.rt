@@ -45,6 +45,9 @@ pub enum Fault {
     /// The body is not of the command's form.
     #[error("the body is not of the command's form")]
     BadBody,
+    /// A list that the body names cannot be opened.
+    #[error("a list that the body names cannot be opened")]
+    NoList,
 }
 
 impl Fault {
@@ -66,6 +69,7 @@ impl Fault {
             Fault::BodyTooLarge => "BodyTooLarge",
             Fault::BodyCut => "BodyCut",
             Fault::BadBody => "BadBody",
+            Fault::NoList => "NoList",
         }
     }
 
@@ -87,6 +91,7 @@ impl Fault {
             Fault::BodyTooLarge => StatusCode::PAYLOAD_TOO_LARGE,
             Fault::BodyCut => StatusCode::BAD_REQUEST,
             Fault::BadBody => StatusCode::BAD_REQUEST,
+            Fault::NoList => StatusCode::NOT_FOUND,
         }
     }
 
@@ -108,6 +113,7 @@ impl Fault {
             Fault::BodyTooLarge => r#"{"http":"BodyTooLarge"}"#,
             Fault::BodyCut => r#"{"http":"BodyCut"}"#,
             Fault::BadBody => r#"{"http":"BadBody"}"#,
+            Fault::NoList => r#"{"http":"NoList"}"#,
         }
     }
 }
