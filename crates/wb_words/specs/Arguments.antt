@@ -7,7 +7,7 @@ use Rattle.clap.specs.Words.{Row, Text, all_of, first_of}
 use Rattle.clap.specs.ValueTests.{is_signed_in, is_unsigned_in}
 use Rattle.deb_text.specs.Options.{all_some}
 use Rattle.wb_words.specs.declared.argument.NamedSource.{NamedSource}
-use Rattle.wb_words.specs.declared.words.PartNames.{PartNames}
+use Rattle.wb_lists.specs.declared.names.PartNames.{PartNames}
 
 -- ---- words and numbers
 

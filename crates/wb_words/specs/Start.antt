@@ -20,8 +20,12 @@ use Rattle.wb_words.specs.declared.start.Start.TheVariants.{Run, Serve, Ask, Car
 unfoldable pub with_journal : App → App
 with_journal app = with_arguments app ((codes "journal", NamedWord) ∷ [])
 
+-- a subcommand with the option `--lists`, which takes a word
+unfoldable pub with_lists : App → App
+with_lists app = with_arguments app ((codes "lists", NamedWord) ∷ [])
+
 -- the program's own command line: the option `--store`, which takes a word, the subcommands `run` and `serve`, which have the option `--journal`, those
--- of a line, and the options `--help` and `-h`
+-- of a line, and the options `--help` and `-h`; `serve` has the option `--lists`, too
 unfoldable pub start_app : App
 start_app = with_wb_usages (with_subcommand (with_subcommand (with_arguments (record (new_app (codes "wb")) {
   top = record ((new_app (codes "wb")).top) {
@@ -29,7 +33,8 @@ start_app = with_wb_usages (with_subcommand (with_subcommand (with_arguments (re
     disable_help_subcommand = true;
     subcommand_required = true;
   };
-}) ((codes "store", NamedWord) ∷ [])) (with_journal (new_app (codes "run"))).top) (with_journal serve_app).top)
+}) ((codes "store", NamedWord) ∷ [])) (with_journal (new_app (codes "run"))).top)
+    (with_lists (with_journal serve_app)).top)
 
 -- the first word is `help`
 abbrev pub begins_with_help : List Text → Bool
@@ -66,6 +71,10 @@ subcommand_in words = subcommand_of start_app (start_words words)
 unfoldable pub journal_in : List Text → Option Text
 journal_in words = option_and_then (λ named. word_of (codes "journal") named.1) (subcommand_in words)
 
+-- the word after the option `--lists` of the subcommand, if it is given
+unfoldable pub lists_in : List Text → Option Text
+lists_in words = option_and_then (λ named. word_of (codes "lists") named.1) (subcommand_in words)
+
 -- the first of these words is a subcommand that asks the office
 abbrev pub begin_with_query : List Text → Bool
 begin_with_query [] = false
@@ -82,12 +91,16 @@ pub record IsSingle (words : List Text) (named : Text × List Row) (given : List
 abbrev pub IsJournal : Text × List Row → Option (Bor Text) → Type 0
 IsJournal named journal = option_map (λ file. file.now) journal ≡ word_of (codes "journal") named.1
 
+-- the lists of a service lie in the folder that its arguments name as such
+abbrev pub AreLists : Text × List Row → Option (Bor Text) → Type 0
+AreLists named lists = option_map (λ folder. folder.now) lists ≡ word_of (codes "lists") named.1
+
 -- a subcommand with its arguments asks for this, with the records in this file
 abbrev pub Names : List Text → Option Text → Text × List Row → Start → Type 0
 Names words file named (Run store journal) = (option_map (λ file. file.now) store ≡ file) × IsJournal named journal
     × (bytes_eq named.0 (codes "run") ≡ true)
-Names words file named (Serve store port requests journal) = (option_map (λ file. file.now) store ≡ file) × IsJournal named journal
-    × (service_named named ≡ Some (port, requests))
+Names words file named (Serve store port requests journal lists) = (option_map (λ file. file.now) store ≡ file)
+    × IsJournal named journal × AreLists named lists × (service_named named ≡ Some (port, requests))
 Names words file named (Ask store given) = (option_map (λ file. file.now) store ≡ file) × IsSingle words named given.now true
 Names words file named (CarryOut store given) = (option_map (λ file. file.now) store ≡ file) × IsSingle words named given.now false
 Names words file named Help = ⊥
@@ -113,7 +126,7 @@ IsRead words start = (begins_with_help words ≡ false) × (start_faults words �
 -- the words ask for this
 abbrev pub Starts : List Text → Start → Type 0
 Starts words (Run store journal) = IsRead words (Run store journal)
-Starts words (Serve store port requests journal) = IsRead words (Serve store port requests journal)
+Starts words (Serve store port requests journal lists) = IsRead words (Serve store port requests journal lists)
 Starts words (Ask store given) = IsRead words (Ask store given)
 Starts words (CarryOut store given) = IsRead words (CarryOut store given)
 Starts words Help = (begins_with_help words ≡ true) ⊎ IsAmong DisplayHelp (start_faults words)

@@ -13,7 +13,9 @@ ghost use Rattle.wb_states.specs.Forms.{PutBack, Rebuild, Take};
 ghost use Rattle.wb_states.specs.Forms.{Uploaded, Waits};
 ghost use Rattle.wb_states.specs.declared.query.Query.TheVariants as query;
 ghost use Rattle.wb_words.specs.Arguments.{integer_in, joined, number_in, parts_in};
-ghost use Rattle.wb_words.specs.Start.{IsNoStart, Starts, begin_with_query, journal_in, single_words, start_faults, store_in};
+ghost use Rattle.wb_words.specs.Start.{IsNoStart, Starts, begin_with_query};
+ghost use Rattle.wb_words.specs.Start.{journal_in, lists_in, single_words};
+ghost use Rattle.wb_words.specs.Start.{start_faults, store_in};
 ghost use Rattle.wb_words.specs.Usages.{usage_named, wb_usages};
 ghost use Rattle.wb_words.specs.Words.{command_named, invocation_by, invocation_in, IsQuery};
 ghost use Rattle.wb_words.specs.declared.start.Start.TheVariants.{Ask, CarryOut, Help, Run, Serve};
@@ -409,11 +411,13 @@ pub fn queries_ask_for_no_command()
 /// `numbers_are_read` has it, and stand within their limits.
 pub fn services_are_read()
     ensures serve { Starts (codes "serve" ∷ codes "--port" ∷ codes "8080" ∷ codes "--requests" ∷ codes "10" ∷ [])
-        (Serve None 8080 (Some 10) None) }
-    ensures order { Starts (codes "serve" ∷ codes "--requests=+1" ∷ codes "--port=007" ∷ []) (Serve None 7 (Some 1) None) }
+        (Serve None 8080 (Some 10) None None) }
+    ensures order { Starts (codes "serve" ∷ codes "--requests=+1" ∷ codes "--port=007" ∷ [])
+        (Serve None 7 (Some 1) None None) }
     ensures greatest { Starts (codes "serve" ∷ codes "--port=65535" ∷ codes "--requests=1000000" ∷ [])
-        (Serve None 65535 (Some 1000000) None) }
-    ensures unlimited { Starts (codes "serve" ∷ codes "--port=1" ∷ []) (Serve None 1 None None) }
+        (Serve None 65535 (Some 1000000) None None) }
+    ensures unlimited { Starts (codes "serve" ∷ codes "--port=1" ∷ [])
+        (Serve None 1 None None None) }
     ensures file { store_in (codes "--store" ∷ codes "wb.db" ∷ codes "serve" ∷ codes "--port=1" ∷ codes "--requests=1"
         ∷ []) ≡ Some (codes "wb.db") }
     ensures help { Starts (codes "serve" ∷ codes "--help" ∷ []) Help }
@@ -433,6 +437,26 @@ pub fn services_are_read()
     ensures behind { IsNoStart (codes "serve" ∷ codes "--port=1" ∷ codes "--requests=1" ∷ codes "--store=a" ∷ []) }
     // in a line of `run`
     ensures line { invocation_by (codes "serve --port 1 --requests 1") ≡ None }
+{}
+
+/// `serve` takes the folder of the lists that a request may merge, once, after it and in any place
+/// among its options; no other subcommand takes one.
+pub fn folders_are_read()
+    ensures serve { lists_in (codes "serve" ∷ codes "--port=1" ∷ codes "--lists" ∷ codes "a" ∷ [])
+        ≡ Some (codes "a") }
+    ensures before { lists_in (codes "serve" ∷ codes "--lists=a b" ∷ codes "--port=1" ∷ [])
+        ≡ Some (codes "a b") }
+    ensures read { start_faults (codes "serve" ∷ codes "--lists=a b" ∷ codes "--port=1" ∷ []) ≡ [] }
+    ensures both { journal_in (codes "serve" ∷ codes "--lists=a" ∷ codes "--journal=b"
+        ∷ codes "--port=1" ∷ []) ≡ Some (codes "b") }
+    ensures none { lists_in (codes "serve" ∷ codes "--port=1" ∷ []) ≡ None }
+    // without a folder, twice, before the subcommand, and after another one
+    ensures unnamed { IsNoStart (codes "serve" ∷ codes "--port=1" ∷ codes "--lists" ∷ []) }
+    ensures twice { IsNoStart (codes "serve" ∷ codes "--port=1" ∷ codes "--lists=a"
+        ∷ codes "--lists=b" ∷ []) }
+    ensures first { IsNoStart (codes "--lists=a" ∷ codes "serve" ∷ codes "--port=1" ∷ []) }
+    ensures run { IsNoStart (codes "run" ∷ codes "--lists=a" ∷ []) }
+    ensures other { IsNoStart (codes "queue" ∷ codes "amd64" ∷ codes "--lists=a" ∷ []) }
 {}
 
 /// A command is asked for by its own name, which its answer then reports.

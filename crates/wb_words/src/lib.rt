@@ -23,4 +23,4 @@ mod words;
 
 pub use fault::WordsFault;
 pub use start::{HELP, Start, start_of};
-pub use words::{Invocation, PartNames, fault_of, invocation_of};
+pub use words::{Invocation, fault_of, invocation_of};

@@ -8,10 +8,11 @@ ghost use Rattle.wb_words.specs.Words.{list_invocation, merge_of, report_of};
 use crate::WordsFault;
 use crate::argument::word;
 use crate::usage::ArgumentKind;
-use crate::words::{Invocation, PartNames};
+use crate::words::Invocation;
 use clap::ArgMatches;
 use deb_text::{Items, Text};
 use std::alloc::Global;
+use wb_lists::PartNames;
 
 /// The subcommands with their arguments.
 pub static USAGES: [(&str, &[(&str, ArgumentKind)]); 2] = [

@@ -6,7 +6,8 @@ ghost use Rattle.clap.specs.declared.error.kind.ErrorKind.TheVariants.{OutOfMemo
 ghost use Rattle.wb_words.specs.Arguments.{word_of};
 ghost use Rattle.wb_words.specs.Service.{serve_app};
 ghost use Rattle.wb_words.specs.Start.{Asks, AsksNone, IsNoStart, Names, NamesNone, Starts};
-ghost use Rattle.wb_words.specs.Start.{begin_with_query, begins_with_help, single_words, start_app, start_words, store_words, with_journal};
+ghost use Rattle.wb_words.specs.Start.{begin_with_query, begins_with_help, single_words, start_app};
+ghost use Rattle.wb_words.specs.Start.{start_words, store_words, with_journal, with_lists};
 ghost use Rattle.wb_words.specs.declared.start.Start.TheVariants.{Ask, CarryOut};
 
 use crate::escape::{escaped, has_negative_value};
@@ -38,6 +39,8 @@ pub enum Start<'a> {
         requests: Option<u32>,
         /// The file to which a line for each accepted command is appended, if one is kept.
         journal: Option<&'a str>,
+        /// The folder of the lists that a request may merge; without it none can merge lists.
+        lists: Option<&'a str>,
     },
     /// To have the office answer a query, which leaves it as it is.
     Ask {
@@ -67,6 +70,7 @@ Usage:
   wb [--store FILE] COMMAND ARGUMENTS..
                            Answers one command
   wb [--store FILE] serve --port P [--requests N] [--journal FILE]
+                          [--lists FOLDER]
                            Answers HTTP requests of builders on this machine
   wb help                  Prints this text
   wb --version             Prints the version
@@ -82,7 +86,8 @@ it is, also with spaces. A command that changes nothing leaves FILE as it is.
 `wb serve` listens on port P of 127.0.0.1 and serves connections, one after
 another, until it is ended. With --requests it serves N of them, and ends. P is
 from 1 to 65535, and N from 1 to 1000000. Each connection carries one request.
---store keeps the records as with `wb run`.
+--store keeps the records as with `wb run`. With --lists a request can merge
+lists of the archive that lie in FOLDER. Without it no request can.
 
 With --journal a line of JSON is appended to FILE for each accepted command once
 it is stored: when it was accepted, what it was, and its answer. A journal that
@@ -204,6 +209,9 @@ const OPTIONS: [(&str, ArgumentKind); 1] = [("store", ArgumentKind::NamedWord)];
 /// The option of the subcommands that go on with an office.
 const JOURNAL: [(&str, ArgumentKind); 1] = [("journal", ArgumentKind::NamedWord)];
 
+/// The option of the subcommand that serves, beside its numbers.
+const LISTS: [(&str, ArgumentKind); 1] = [("lists", ArgumentKind::NamedWord)];
+
 /// The program's command line: the option `--store`, the subcommands `run` and `serve` and those of a line, and help.
 #[tactic(auto, unfolding(crate::specs::Start::start_app))]
 fn start_app<'a>(alloc: Global) -> Result<Command<'a>, AllocError>
@@ -234,10 +242,11 @@ fn with_run<'a>(alloc: Global, command: Command<'a>) -> Result<Command<'a>, Allo
 fn with_service<'a>(alloc: Global, command: Command<'a>) -> Result<Command<'a>, AllocError>
     requires { (out-Command command).has_globals ≡ false }
     ensures value { IfOk result (λ made. app_of made
-        ≡ with_subcommand (app_of command.entry) (with_journal serve_app).top) }
+        ≡ with_subcommand (app_of command.entry) (with_lists (with_journal serve_app)).top) }
     ensures local { IfOk result (λ made. (out-Command made).has_globals ≡ false) }
 {
-    let serve = with_journal(alloc, serve_command(alloc)?)?;
+    let kept = with_journal(alloc, serve_command(alloc)?)?;
+    let serve = with_lists(alloc, kept)?;
     command.subcommand(serve)
 }
 
@@ -251,13 +260,23 @@ fn with_journal<'a>(alloc: Global, subcommand: Command<'a>) -> Result<Command<'a
     with_arguments(alloc, subcommand, JOURNAL.as_slice())
 }
 
-/// The file of the journal, if the subcommand's arguments name one.
-#[tactic(auto, using(crate::proofs::RowLemmas::row_laws), unfolding(crate::specs::Arguments::word_of))]
-fn journal_of<'a>(arguments: &ArgMatches<'a>) -> Option<&'a str>
-    ensures value { option_map (λ file. file.now) result
-        ≡ word_of (codes "journal") (rows_of (found_of arguments.now)) }
+/// The subcommand with the option `--lists`.
+#[tactic(auto, unfolding(crate::specs::Start::with_lists))]
+fn with_lists<'a>(alloc: Global, subcommand: Command<'a>) -> Result<Command<'a>, AllocError>
+    requires { (out-Command subcommand).has_globals ≡ false }
+    ensures value { IfOk result (λ made. app_of made ≡ with_lists (app_of subcommand.entry)) }
+    ensures local { IfOk result (λ made. (out-Command made).has_globals ≡ false) }
 {
-    arguments.get_str("journal")
+    with_arguments(alloc, subcommand, LISTS.as_slice())
+}
+
+/// The file or the folder that the subcommand's arguments name under `id`, if they name one.
+#[tactic(auto, using(crate::proofs::RowLemmas::row_laws), unfolding(crate::specs::Arguments::word_of))]
+fn path_of<'a>(arguments: &ArgMatches<'a>, id: &str) -> Option<&'a str>
+    ensures value { option_map (λ path. path.now) result
+        ≡ word_of id.now (rows_of (found_of arguments.now)) }
+{
+    arguments.get_str(id)
 }
 
 /// How many words before the subcommand name the file that keeps the records.
@@ -316,17 +335,19 @@ fn start_named<'a>(
 {
     match name {
         "run" => {
-            let journal = journal_of(arguments);
+            let journal = path_of(arguments, "journal");
             Some(Start::Run { store, journal })
         }
         "serve" => {
             let (port, requests) = service_of(arguments)?;
-            let journal = journal_of(arguments);
+            let journal = path_of(arguments, "journal");
+            let lists = path_of(arguments, "lists");
             Some(Start::Serve {
                 store,
                 port,
                 requests,
                 journal,
+                lists,
             })
         }
         _ => Some(single_start(store, single_words(words))),
@@ -388,11 +409,12 @@ fn started<'a>(
 /// them is at fault or is `--`. `--store FILE` or `--store=FILE` before the subcommand names the file that keeps
 /// the records. `serve` wants `--port` with a number from 1 to 65535, and takes `--requests` with one from 1 to 1000000,
 /// each in decimal digits after at most one plus sign. `--journal FILE`, after `run` or `serve`, names the file to which a
-/// line for each accepted command is appended. Each subcommand of a line is one here too, with its arguments: what
-/// `clap` does not test of them, numbers and the parts of a merge, is read when the command is carried out. A negative
-/// build priority may stand without `--`, as the last word. The error is
-/// that of `clap`, with a text for the terminal: the words ask for nothing, or there is no memory to read them, which may
-/// come at any words. The grammar is this project's own.
+/// line for each accepted command is appended. `--lists FOLDER`, after `serve`, names the folder
+/// of the lists that a request may merge. Each subcommand of a line is one here too, with its
+/// arguments: what `clap` does not test of them, numbers and the parts of a merge, is read when the
+/// command is carried out. A negative build priority may stand without `--`, as the last word. The
+/// error is that of `clap`, with a text for the terminal: the words ask for nothing, or there is no
+/// memory to read them, which may come at any words. The grammar is this project's own.
 pub fn start_of<'a>(alloc: Global, words: &'a [&'a str]) -> Result<Start<'a>, Error>
     ensures value { IfOk result (Starts (map (λ word. word.now) words.entry.now)) }
     ensures refused { IfErr result (λ error. kind_of error ≢ OutOfMemory

@@ -14,16 +14,8 @@ use crate::{WordsFault, builder, lists, operator, query};
 use clap::ArgMatches;
 use deb_text::{Items, Text};
 use std::alloc::{AllocError, Global};
+use wb_lists::PartNames;
 use wb_states::{Command, Query};
-
-/// A part of a merge as a line names it.
-#[derive(Debug, Drop)]
-pub struct PartNames {
-    /// The architecture.
-    pub arch: Text,
-    /// The name of the file that has its Packages list.
-    pub packages: Text,
-}
 
 /// What the words of a line ask for.
 #[derive(Debug, Drop)]

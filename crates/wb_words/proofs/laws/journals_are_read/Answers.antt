@@ -3,11 +3,12 @@ use Rattle.clap.specs.declared.error.kind.ErrorKind.TheVariants as kind
 use Rattle.clap.proofs.OnLiterals.{clap_on_literals}
 use Rattle.wb_words.specs.Arguments.{word_of}
 use Rattle.wb_words.specs.Escapes.{has_negative_value}
-use Rattle.wb_words.specs.Start.{journal_in, with_journal, start_app, start_faults, subcommand_in}
+use Rattle.wb_words.specs.Start.{journal_in, with_journal, with_lists, start_app, start_faults, subcommand_in}
 use Rattle.wb_words.proofs.laws.journals_are_read.Goals as goal
 
 pub returns : goal.returns
-unfolding has_negative_value journal_in start_faults subcommand_in with_journal start_app word_of clap_on_literals
+unfolding has_negative_value journal_in start_faults subcommand_in with_journal with_lists start_app word_of
+    clap_on_literals
 returns c = record {
   run = refl;
   run_read = refl;
