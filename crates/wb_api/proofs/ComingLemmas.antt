@@ -14,8 +14,9 @@ use Rattle.wb_streams.specs.Heads.{HasManyFields, IsHeadAt, head_limit}
 use Rattle.wb_streams.specs.declared.fault.Fault.{Fault}
 use Rattle.wb_streams.specs.declared.fault.Fault.TheVariants.{BadLength, BodyTooLarge, FromBrowser, NoRoute, NotSupported, WrongMethod}
 use Rattle.wb_states.specs.declared.query.Query.{Query}
-use Rattle.wb_api.specs.Coming.{EndsAfter, IsSettled}
-use Rattle.wb_api.specs.Requests.{IsHead, IsRequestFront, Means, asked_by, body_length, command_wanted, query_wanted, wanted_by, wanted_of}
+use Rattle.wb_api.specs.Coming.{EndsAfterWith, IsSettledWith}
+use Rattle.wb_api.specs.Requests.{IsHead, IsRequestFrontWith, MeansWith, asked_by, body_length, body_wanted}
+use Rattle.wb_api.specs.Requests.{query_wanted, wanted_by_with, wanted_of_with}
 use Rattle.wb_api.specs.Routes.{and_then, query_of, route_at}
 use Rattle.wb_api.specs.declared.coming.Coming.{Coming}
 use Rattle.wb_api.specs.declared.coming.Coming.TheVariants as coming
@@ -23,7 +24,8 @@ use Rattle.wb_api.specs.declared.request.Received.{Received}
 use Rattle.wb_api.specs.declared.request.Received.TheVariants as received
 use Rattle.wb_api.specs.declared.request.Wanted.{Wanted}
 use Rattle.wb_api.specs.declared.request.Wanted.TheVariants as wanted
-use Rattle.wb_api.specs.declared.route.CommandKind.{CommandKind}
+use Rattle.wb_api.specs.declared.route.BodyKind.{BodyKind}
+use Rattle.wb_api.specs.declared.route.BodyKind.TheVariants as body_kind
 use Rattle.wb_api.specs.declared.route.QueryKind.{QueryKind}
 use Rattle.wb_api.specs.declared.route.Route.{Route}
 use Rattle.wb_api.specs.declared.route.Route.TheVariants as route
@@ -45,31 +47,31 @@ limited-fault : (fault : Fault) → IsLimited (Err fault)
 limited-fault fault = omega arith
 
 -- a length that is not above the limit
-limited-length : (kind : CommandKind) (n : ℕ) (b : Bool) → nat_lt body_limit n ≡ b
+limited-length : (kind : BodyKind) (n : ℕ) (b : Bool) → nat_lt body_limit n ≡ b
     → IsLimited (and_then (if b then Err BodyTooLarge else Ok n) (λ count. Ok (wanted.Body kind count)))
 limited-length kind n true is = limited-fault BodyTooLarge
 limited-length kind n false is = grind (arith, nat_tests)
 
-limited-number : (kind : CommandKind) (n : ℕ) → IsLimited (and_then (limited n) (λ count. Ok (wanted.Body kind count)))
+limited-number : (kind : BodyKind) (n : ℕ) → IsLimited (and_then (limited n) (λ count. Ok (wanted.Body kind count)))
 unfolding limited
 limited-number kind n = limited-length kind n (nat_lt body_limit n) refl
 
-limited-same : (kind : CommandKind) (b : Bool) (n : ℕ)
+limited-same : (kind : BodyKind) (b : Bool) (n : ℕ)
     → IsLimited (and_then (if b then limited n else Err BadLength) (λ count. Ok (wanted.Body kind count)))
 limited-same kind true n = limited-number kind n
 limited-same kind false n = limited-fault BadLength
 
-limited-stated : (kind : CommandKind) (values : List (List ℕ))
+limited-stated : (kind : BodyKind) (values : List (List ℕ))
     → IsLimited (and_then (length_stated values) (λ count. Ok (wanted.Body kind count)))
 unfolding length_stated
 limited-stated kind [] = omega arith
 limited-stated kind (value ∷ values) =
     limited-same kind (list_all (is_same_number value) (value ∷ values)) (digits_value 10 value)
 
-limited-command : (kind : CommandKind) (method : List ℕ) (fields : List NameAndValue)
-    → IsLimited (command_wanted kind method fields)
-unfolding command_wanted
-limited-command kind method fields =
+limited-body : (kind : BodyKind) (method : List ℕ) (fields : List NameAndValue)
+    → IsLimited (body_wanted kind method fields)
+unfolding body_wanted
+limited-body kind method fields =
     limited-if (bytes_eq method (codes "POST")) _ _
     (limited-if (has_field (codes "transfer-encoding") fields) _ _ (limited-fault NotSupported)
     (limited-stated kind (values_of content_length fields)))
@@ -84,16 +86,19 @@ unfolding query_wanted
 limited-query kind method target =
     limited-if (bytes_eq method (codes "GET")) _ _ (limited-asking (query_of kind target)) (limited-fault WrongMethod)
 
-limited-by : (found : Option Route) (method target : List ℕ) (fields : List NameAndValue)
-    → IsLimited (wanted_by found method target fields)
-limited-by None method target fields = limited-fault NoRoute
-limited-by (Some (route.Command kind)) method target fields = limited-command kind method fields
-limited-by (Some (route.Query kind)) method target fields = limited-query kind method target
+limited-by : (has_lists : Bool) (found : Option Route) (method target : List ℕ) (fields : List NameAndValue)
+    → IsLimited (wanted_by_with has_lists found method target fields)
+limited-by has_lists None method target fields = limited-fault NoRoute
+limited-by has_lists (Some (route.Command kind)) method target fields =
+    limited-body (body_kind.Command kind) method fields
+limited-by has_lists (Some (route.Query kind)) method target fields = limited-query kind method target
+limited-by has_lists (Some route.Merge) method target fields =
+    limited-if has_lists _ _ (limited-body body_kind.Merge method fields) (limited-fault NoRoute)
 
-pub wanted-limited : (head : RequestHead) → body_length (wanted_of head) ≤ body_limit
-wanted-limited head =
+pub wanted-limited : (has_lists : Bool) (head : RequestHead) → body_length (wanted_of_with has_lists head) ≤ body_limit
+wanted-limited has_lists head =
     limited-if (is_from_browser (map name_and_value head.fields)) _ _ (limited-fault FromBrowser)
-    (limited-by (route_at head.target) head.method head.target (map name_and_value head.fields))
+    (limited-by has_lists (route_at head.target) head.method head.target (map name_and_value head.fields))
 
 -- ---- what follows
 
@@ -116,97 +121,111 @@ never-more input more never = elim (cases_lt (length input) head_limit) [
 ]
 
 -- bytes with a whole body, and without a head that has not ended, mean the same with any bytes after them
-means-more : (input : List ℕ) → 0 < length input
-    → ((head : RequestHead) (rest : List ℕ) → IsHead input head rest → body_length (wanted_of head) ≤ length rest)
+means-more : (has_lists : Bool) (input : List ℕ) → 0 < length input
+    → ((head : RequestHead) (rest : List ℕ) → IsHead input head rest
+    → body_length (wanted_of_with has_lists head) ≤ length rest)
     → (length input < head_limit → HasNoRequest input → NeverHasRequest input)
-    → (more : List ℕ) (received : Received) → Means input received → Means (input ++ more) received
-means-more input some body ended more received.Nothing means = absurd (omega (arith, ap length means))
-means-more input some body ended more received.Failed means = tt
-means-more input some body ended more received.Memory (head, rest, is, takes) =
+    → (more : List ℕ) (received : Received) → MeansWith has_lists input received
+    → MeansWith has_lists (input ++ more) received
+means-more has_lists input some body ended more received.Nothing means = absurd (omega (arith, ap length means))
+means-more has_lists input some body ended more received.Failed means = tt
+means-more has_lists input some body ended more received.Memory (head, rest, is, takes) =
     (head, rest ++ more, IsHead-append input head rest more is, takes)
-means-more input some body ended more (received.Refused fault) (inl (head, rest, is, e)) =
-    let same = asked-more (wanted_of head) rest more (body head rest is) in
+means-more has_lists input some body ended more (received.Refused fault) (inl (head, rest, is, e)) =
+    let same = asked-more (wanted_of_with has_lists head) rest more (body head rest is) in
     inl (head, rest ++ more, IsHead-append input head rest more is, same ∙ e)
-means-more input some body ended more (received.Refused fault) (inr (inl (which, (filled, inl never)))) =
+means-more has_lists input some body ended more (received.Refused fault) (inr (inl (which, (filled, inl never)))) =
     inr (inl (which, (omega (arith, length-append input more), inl (never-more input more never))))
-means-more input some body ended more (received.Refused fault) (inr (inl (which, (filled, inr (short, none))))) =
+means-more has_lists input some body ended more (received.Refused fault)
+    (inr (inl (which, (filled, inr (short, none))))) =
     let never = subst NeverHasRequest (sym (take_all head_limit input (omega arith))) (ended short none) in
     inr (inl (which, (omega (arith, length-append input more), inl (never-more input more never))))
-means-more input some body ended more (received.Refused fault) (inr (inr (which, large))) =
-    refused-means_more input more fault (λ cut. let e = sym which ∙ cut in cc) (λ bad. let e = sym which ∙ bad in cc)
+means-more has_lists input some body ended more (received.Refused fault) (inr (inr (which, large))) =
+    refused-means_more has_lists input more fault
+    (λ cut. let e = sym which ∙ cut in cc) (λ bad. let e = sym which ∙ bad in cc)
     (inr (inr (which, large)))
-means-more input some body ended more (received.Asked request) means = asked-means_more input more request means
+means-more has_lists input some body ended more (received.Asked request) means =
+    asked-means_more has_lists input more request means
 
 -- a head and its body have come
-settled-head : (input : List ℕ) (head : RequestHead) (rest : List ℕ) → IsHead input head rest
-    → body_length (wanted_of head) ≤ length rest → IsSettled input
-settled-head input head rest is come = means-more input
+settled-head : (has_lists : Bool) (input : List ℕ) (head : RequestHead) (rest : List ℕ) → IsHead input head rest
+    → body_length (wanted_of_with has_lists head) ≤ length rest → IsSettledWith has_lists input
+settled-head has_lists input head rest is come = means-more has_lists input
     (let some = print_request-filled head is.reads.0.method.0 in
     omega (arith, ap length is.reads.1, length-append (print_request head) rest))
     (λ k q isk. let same = request_unique input head k rest q is.reads isk.reads in
-    subst (λ l. body_length (wanted_of k) ≤ length l) same.1
-    (subst (λ h. body_length (wanted_of h) ≤ length rest) same.0 come))
+    subst (λ l. body_length (wanted_of_with has_lists k) ≤ length l) same.1
+    (subst (λ h. body_length (wanted_of_with has_lists h) ≤ length rest) same.0 come))
     (λ short none. absurd (none head rest is.reads))
 
 -- a head that is too long
-settled-long : (input : List ℕ) (count : ℕ) (head : RequestHead) → IsHeadAt input count head → head_limit < count
-    → IsSettled input
-settled-long input count head at long = means-more input
+settled-long : (has_lists : Bool) (input : List ℕ) (count : ℕ) (head : RequestHead) → IsHeadAt input count head
+    → head_limit < count
+    → IsSettledWith has_lists input
+settled-long has_lists input count head at long = means-more has_lists input
     (omega (arith, at.count_fits))
     (λ k q isk. let same = request_unique input head k (drop count input) q at.reads isk.reads in
     absurd (omega (arith, at.count_is, isk.within, ap (λ h. length (print_request h)) same.0)))
     (λ short none. absurd (none head (drop count input) at.reads))
 
 -- a head within the limits, and its body
-settled-at : (input : List ℕ) (count : ℕ) (head : RequestHead) → IsHeadAt input count head → count ≤ head_limit
-    → count + body_length (wanted_of head) ≤ length input → IsSettled input
-settled-at input count head at within come = settled-head input head (drop count input)
+settled-at : (has_lists : Bool) (input : List ℕ) (count : ℕ) (head : RequestHead) → IsHeadAt input count head
+    → count ≤ head_limit
+    → count + body_length (wanted_of_with has_lists head) ≤ length input → IsSettledWith has_lists input
+settled-at has_lists input count head at within come = settled-head has_lists input head (drop count input)
     (record { reads = at.reads; within = omega (arith, at.count_is); fields = at.fields })
     (simp length-drop (omega arith))
 
 -- a head, and its body if it is within the limits
-pub settled-whole : (input : List ℕ) (count : ℕ) (head : RequestHead) → IsHeadAt input count head
-    → (count ≤ head_limit → count + body_length (wanted_of head) ≤ length input) → IsSettled input
-settled-whole input count head at come = elim (cases_lt head_limit count) [
-  | inl long ↦ settled-long input count head at long
-  | inr within ↦ settled-at input count head at within (come within)
+pub settled-whole : (has_lists : Bool) (input : List ℕ) (count : ℕ) (head : RequestHead) → IsHeadAt input count head
+    → (count ≤ head_limit → count + body_length (wanted_of_with has_lists head) ≤ length input)
+    → IsSettledWith has_lists input
+settled-whole has_lists input count head at come = elim (cases_lt head_limit count) [
+  | inl long ↦ settled-long has_lists input count head at long
+  | inr within ↦ settled-at has_lists input count head at within (come within)
 ]
 
 -- a head with more fields than one may have, or none that is whole
-no-head : (input : List ℕ) → NeverHasRequest input → (head : RequestHead) (rest : List ℕ) → IsHead input head rest
-    → body_length (wanted_of head) ≤ length rest
-no-head input never head rest is = absurd (never [] head (rest ++ []) (ReadsRequest-append input head rest [] is.reads))
+no-head : (has_lists : Bool) (input : List ℕ) → NeverHasRequest input → (head : RequestHead) (rest : List ℕ)
+    → IsHead input head rest
+    → body_length (wanted_of_with has_lists head) ≤ length rest
+no-head has_lists input never head rest is =
+    absurd (never [] head (rest ++ []) (ReadsRequest-append input head rest [] is.reads))
 
-pub settled-malformed : (input : List ℕ) → 0 < length input → NeverHasRequest input → IsSettled input
-settled-malformed input some never = means-more input some (no-head input never) (λ short none. never)
+pub settled-malformed : (has_lists : Bool) (input : List ℕ) → 0 < length input → NeverHasRequest input
+    → IsSettledWith has_lists input
+settled-malformed has_lists input some never =
+    means-more has_lists input some (no-head has_lists input never) (λ short none. never)
 
-pub settled-unfinished : (input : List ℕ) → 0 < length input → HasNoRequest input
-    → (length input < head_limit → HasNoRequest input → NeverHasRequest input) → IsSettled input
-settled-unfinished input some none ended =
-    means-more input some (λ head rest is. absurd (none head rest is.reads)) ended
+pub settled-unfinished : (has_lists : Bool) (input : List ℕ) → 0 < length input → HasNoRequest input
+    → (length input < head_limit → HasNoRequest input → NeverHasRequest input) → IsSettledWith has_lists input
+settled-unfinished has_lists input some none ended =
+    means-more has_lists input some (λ head rest is. absurd (none head rest is.reads)) ended
 
-pub settled-crowded : (input : List ℕ) → 0 < length input → HasManyFields input
-    → (length input < head_limit → HasNoRequest input → NeverHasRequest input) → IsSettled input
-settled-crowded input some many ended = means-more input some
+pub settled-crowded : (has_lists : Bool) (input : List ℕ) → 0 < length input → HasManyFields input
+    → (length input < head_limit → HasNoRequest input → NeverHasRequest input) → IsSettledWith has_lists input
+settled-crowded has_lists input some many ended = means-more has_lists input some
     (λ head rest is. let over = many.0 [] head (rest ++ []) (ReadsRequest-append input head rest [] is.reads) in
     absurd (omega (arith, is.fields)))
     ended
 
 -- ---- where a request ends
 
-pub ends-at : (input : List ℕ) (count total : ℕ) (head : RequestHead) → IsHeadAt input count head → count ≤ head_limit
-    → total ≡ count + body_length (wanted_of head) → EndsAfter input total
-ends-at input count total head at within is = (
+pub ends-at : (has_lists : Bool) (input : List ℕ) (count total : ℕ) (head : RequestHead) → IsHeadAt input count head
+    → count ≤ head_limit
+    → total ≡ count + body_length (wanted_of_with has_lists head) → EndsAfterWith has_lists input total
+ends-at has_lists input count total head at within is = (
   head,
   drop count input,
   record { reads = at.reads; within = omega (arith, at.count_is); fields = at.fields },
-  is ∙ ap (λ n. n + body_length (wanted_of head)) at.count_is,
+  is ∙ ap (λ n. n + body_length (wanted_of_with has_lists head)) at.count_is,
 )
 
-pub settled-end : (input more : List ℕ) (total : ℕ) → EndsAfter input total → total ≤ length (input ++ more)
-    → IsSettled (input ++ more)
-settled-end input more total (head, rest, is, end) come =
-    settled-head (input ++ more) head (rest ++ more) (IsHead-append input head rest more is)
+pub settled-end : (has_lists : Bool) (input more : List ℕ) (total : ℕ) → EndsAfterWith has_lists input total
+    → total ≤ length (input ++ more)
+    → IsSettledWith has_lists (input ++ more)
+settled-end has_lists input more total (head, rest, is, end) come =
+    settled-head has_lists (input ++ more) head (rest ++ more) (IsHead-append input head rest more is)
     (omega (
       arith,
       ap length is.reads.1,
@@ -216,25 +235,28 @@ settled-end input more total (head, rest, is, end) come =
     ))
 
 -- the front of a request, whose body is missing
-front-at : (input : List ℕ) (count total : ℕ) (head : RequestHead) → IsHeadAt input count head → count ≤ head_limit
-    → total ≡ count + body_length (wanted_of head) → length input < total → IsRequestFront input
-front-at input count total head at within is short = inr (
+front-at : (has_lists : Bool) (input : List ℕ) (count total : ℕ) (head : RequestHead) → IsHeadAt input count head
+    → count ≤ head_limit
+    → total ≡ count + body_length (wanted_of_with has_lists head) → length input < total
+    → IsRequestFrontWith has_lists input
+front-at has_lists input count total head at within is short = inr (
   head,
   drop count input,
   record { reads = at.reads; within = omega (arith, at.count_is); fields = at.fields },
   simp length-drop (omega arith),
 )
 
-pub front-by : (input : List ℕ) (count : ℕ) (head : RequestHead) (came : Coming) → IsHeadAt input count head
+pub front-by : (has_lists : Bool) (input : List ℕ) (count : ℕ) (head : RequestHead) (came : Coming)
+    → IsHeadAt input count head
     → ¬ (came ≡ coming.Head)
     → ((total : ℕ) (k : RequestHead) → came ≡ coming.Body total → IsHeadAt input count k
-    → (length input < total) × (count ≤ head_limit) × (total ≡ count + body_length (wanted_of k)))
-    → ¬ (came ≡ coming.Whole) → IsRequestFront input
-front-by input count head coming.Head at other body waits = absurd (other refl)
-front-by input count head (coming.Body total) at other body waits =
+    → (length input < total) × (count ≤ head_limit) × (total ≡ count + body_length (wanted_of_with has_lists k)))
+    → ¬ (came ≡ coming.Whole) → IsRequestFrontWith has_lists input
+front-by has_lists input count head coming.Head at other body waits = absurd (other refl)
+front-by has_lists input count head (coming.Body total) at other body waits =
     let ends = body total head refl at in
-    front-at input count total head at ends.1 ends.2 ends.0
-front-by input count head coming.Whole at other body waits = absurd (waits refl)
+    front-at has_lists input count total head at ends.1 ends.2 ends.0
+front-by has_lists input count head coming.Whole at other body waits = absurd (waits refl)
 
 -- bytes of which some came
 pub some-came : (bytes : List ℕ) → false ≡ (length bytes == 0) → 0 < length bytes

@@ -26,26 +26,31 @@ use Rattle.wb_api.specs.Encoding.{is_plain, reply_text}
 use Rattle.wb_states.specs.declared.query.Query.{Query}
 use Rattle.wb_states.specs.declared.query.Query.TheVariants as query
 use Rattle.wb_api.specs.Responses.{IsFoundAnswer, command_response, found_response, IsRefusal, memory_response, refusal_response, reply_response, Response}
-use Rattle.wb_api.specs.Exchange.{IsCommandAnswer, IsQueryAnswer, LeadsOn, over_http}
+use Rattle.wb_lists.specs.Lists.{MayRead}
+use Rattle.wb_api.specs.Exchange.{EndsUnasked, ExchangesWith, IsCommandAnswer, IsQueryAnswer, LeadsOn, over_http}
+use Rattle.wb_api.specs.declared.request.Received.{Received}
+use Rattle.wb_api.specs.declared.request.Received.TheVariants as received
+use Rattle.wb_api.specs.declared.serve.Served.{Served}
 
 -- ---- where a refusal leads
 
 -- an office that refused is closed, its store failed, or it stands as before
 pub refusal-leads : {X : Type 0} (is_clean is_closed : X → Type 0) (stands_at : X → Machine → Type 0) (leaves : X → Machine → Machine → StoreFault → Type 0) (old new : X)
-    (IsSo : Machine → Machine → Standing → Type 0) (refusal : Refusal) (doubt : StoreFault → Standing)
+    (IsSo : Machine → Machine → Standing → Type 0) (refusal : Refusal)
     → ((before : Machine) → is_clean new → stands_at old before → refusal ≡ Closed → (is_closed new × stands_at new before) × IsSo before before Shut)
     → ((before : Machine) → is_clean new → stands_at old before → (fault : StoreFault) → refusal ≡ Store fault
-    → Stands is_closed stands_at leaves new before (doubt fault) × IsSo before before (doubt fault))
+    → (standing : Standing) × Stands is_closed stands_at leaves new before standing × IsSo before before standing)
     → ((before : Machine) → is_clean new → stands_at old before → refusal ≡ Memory → stands_at new before × IsSo before before Open)
     → ((before : Machine) → is_clean new → stands_at old before → IsOfMachine refusal → is_of_store refusal ≡ false
     → stands_at new before × IsSo before before Open)
     → Leads is_clean is_closed stands_at leaves old new IsSo
-refusal-leads is_clean is_closed stands_at leaves old new IsSo refusal doubt closed failed memory refused before clean stands =
+refusal-leads is_clean is_closed stands_at leaves old new IsSo refusal closed failed memory refused before clean stands
+    =
     (elim (is_of_store refusal) as (λ b. is_of_store refusal ≡ b
     → (after : Machine) × (standing : Standing) × Stands is_closed stands_at leaves new after standing × IsSo before after standing) [
       | true ↦ λ is. elim (is_of_store-cases refusal is) [
         | inl shut ↦ let s = closed before clean stands shut in (before, Shut, s.0, s.1)
-        | inr out ↦ let s = failed before clean stands out.0 out.1 in (before, doubt out.0, s.0, s.1)
+        | inr out ↦ let s = failed before clean stands out.0 out.1 in (before, s.0, s.1, s.2)
       ]
       | false ↦ λ other. elim (refusal-cases refusal) [
         | inl is ↦ let s = memory before clean stands is in (before, Open, s.0, s.1)
@@ -55,21 +60,21 @@ refusal-leads is_clean is_closed stands_at leaves old new IsSo refusal doubt clo
 
 -- the same, and an office that is not closed after it stands open: one whose store failed is closed
 pub refusal-leads_on : {X : Type 0} (is_clean is_closed : X → Type 0) (stands_at : X → Machine → Type 0) (leaves : X → Machine → Machine → StoreFault → Type 0) (old new : X)
-    (IsSo : Machine → Machine → Standing → Type 0) (refusal : Refusal) (doubt : StoreFault → Standing)
+    (IsSo : Machine → Machine → Standing → Type 0) (refusal : Refusal)
     → (is_of_store refusal ≡ true → ¬ (¬ (is_closed new)))
     → ((before : Machine) → is_clean new → stands_at old before → refusal ≡ Closed → (is_closed new × stands_at new before) × IsSo before before Shut)
     → ((before : Machine) → is_clean new → stands_at old before → (fault : StoreFault) → refusal ≡ Store fault
-    → Stands is_closed stands_at leaves new before (doubt fault) × IsSo before before (doubt fault))
+    → (standing : Standing) × Stands is_closed stands_at leaves new before standing × IsSo before before standing)
     → ((before : Machine) → is_clean new → stands_at old before → refusal ≡ Memory → stands_at new before × IsSo before before Open)
     → ((before : Machine) → is_clean new → stands_at old before → IsOfMachine refusal → is_of_store refusal ≡ false
     → stands_at new before × IsSo before before Open)
     → LeadsOn is_clean is_closed stands_at leaves old new IsSo
-refusal-leads_on is_clean is_closed stands_at leaves old new IsSo refusal doubt shuts closed failed memory refused =
+refusal-leads_on is_clean is_closed stands_at leaves old new IsSo refusal shuts closed failed memory refused =
     refusal-leads is_clean is_closed stands_at leaves old new
-    (λ before after standing. IsSo before after standing × (¬ (is_closed new) → standing ≡ Open)) refusal doubt
+    (λ before after standing. IsSo before after standing × (¬ (is_closed new) → standing ≡ Open)) refusal
     (λ before clean stands is. let s = closed before clean stands is in (s.0, (s.1, λ open_still. absurd (open_still s.0.0))))
     (λ before clean stands fault is. let s = failed before clean stands fault is in
-    (s.0, (s.1, λ open_still. absurd (shuts (ap is_of_store is) open_still))))
+    (s.0, s.1, (s.2, λ open_still. absurd (shuts (ap is_of_store is) open_still))))
     (λ before clean stands is. let s = memory before clean stands is in (s.0, (s.1, λ open_still. refl)))
     (λ before clean stands of_machine other. let s = refused before clean stands of_machine other in (s.0, (s.1, λ open_still. refl)))
 
@@ -206,11 +211,29 @@ found-leads is_clean is_closed stands_at leaves old new query (Ok answer) respon
     let done = answered before clean stands in
     (before, Open, done.1, (found-answered before query answer (response before) done.0 (said before), λ open_still. refl))
 found-leads is_clean is_closed stands_at leaves old new query (Err refusal) response said answered refused memory closed store shut on =
-    refusal-leads_on is_clean is_closed stands_at leaves old new (λ before after standing. IsQueryAnswer before query (response after) standing) refusal (λ fault. Failed fault)
+    refusal-leads_on is_clean is_closed stands_at leaves old new
+    (λ before after standing. IsQueryAnswer before query (response after) standing) refusal
     (store-shuts is_closed old new refusal shut on)
     (λ before clean stands is. (closed before clean stands (ap Err is), inr (inl (said-as over_http before (response before) is (said before), refl))))
-    (λ before clean stands fault is. (store before clean stands fault (ap Err is), inr (inr (fault, said-as over_http before (response before) is (said before), refl))))
+    (λ before clean stands fault is. (
+      Failed fault,
+      store before clean stands fault (ap Err is),
+      inr
+          (inr (fault, said-as over_http before (response before) is (said before), refl)),
+    ))
     (λ before clean stands is. let wants = memory before clean stands (ap Err is) in
     (wants.1, query-unasked before query (response before) wants.0 (said-as over_http before (response before) is (said before))))
     (λ before clean stands machine other. let kept = refused before clean stands machine other in
     (kept.1, query-refused before query refusal (response before) kept.0 (said before)))
+
+-- ---- what is no request
+
+-- what is written about what is no request is an exchange that leaves the office as it was
+pub unasked-exchanges : (may_read : MayRead) (got : Received) (machine : Machine) (old new : Option (List ℕ))
+    (result : Served)
+    → EndsUnasked got machine old new result → ExchangesWith may_read got machine machine Open old new result
+unasked-exchanges may_read received.Nothing machine old new result ends = (refl, refl, ends.0, ends.1)
+unasked-exchanges may_read received.Failed machine old new result ends = (refl, refl, ends.0, ends.1)
+unasked-exchanges may_read received.Memory machine old new result ends = (refl, refl, ends)
+unasked-exchanges may_read (received.Refused fault) machine old new result ends = (refl, refl, ends)
+unasked-exchanges may_read (received.Asked asked) machine old new result ends = absurd ends

@@ -6,13 +6,14 @@ use Rattle.httparse.proofs.GrammarLemmas.{ReadsRequest-append, request_unique}
 use Rattle.std.proofs.lemmas.Bool.Decides.{nat_tests}
 use Rattle.std.proofs.lemmas.List.{take-append-le}
 use Rattle.wb_streams.specs.Heads.{IsUnfinished, head_limit}
-use Rattle.wb_api.specs.Requests.{Answers, IsHead, Means, TakesMemory, asked, asked_by, body_asked, wanted_of}
+use Rattle.wb_api.specs.Requests.{Answers, IsHead, MeansWith, TakesMemory, asked_by, asked_with, body_asked}
+use Rattle.wb_api.specs.Requests.{wanted_of_with}
 use Rattle.wb_api.specs.declared.request.Received.{Received}
 use Rattle.wb_api.specs.declared.request.Received.TheVariants as received
 use Rattle.wb_api.specs.declared.request.Request.{Request}
 use Rattle.wb_api.specs.declared.request.Wanted.{Wanted}
 use Rattle.wb_api.specs.declared.request.Wanted.TheVariants as wanted
-use Rattle.wb_api.specs.declared.route.CommandKind.{CommandKind}
+use Rattle.wb_api.specs.declared.route.BodyKind.{BodyKind}
 use Rattle.wb_streams.specs.declared.fault.Fault.{Fault}
 use Rattle.wb_streams.specs.declared.fault.Fault.TheVariants.{BadHead, BodyCut}
 use Rattle.wb_api.specs.Routes.{and_then}
@@ -32,33 +33,41 @@ front_reads input head rest is =
       (is.reads.0, ap (take head_limit) is.reads.1 ∙ ap (λ n. take n (print_request head ++ rest)) size ∙ take-append-add (print_request head) rest (head_limit - length (print_request head))),
     )
 
-same_asked : (input : List ℕ) (head k : RequestHead) (rest q : List ℕ) → IsHead input head rest → IsHead input k q → asked head rest ≡ asked k q
-same_asked input head k rest q is isk = let same = request_unique input head k rest q is.reads isk.reads in ap₂ asked same.0 same.1
+same_asked : (has_lists : Bool) (input : List ℕ) (head k : RequestHead) (rest q : List ℕ) → IsHead input head rest
+    → IsHead input k q → asked_with has_lists head rest ≡ asked_with has_lists k q
+same_asked has_lists input head k rest q is isk =
+    let same = request_unique input head k rest q is.reads isk.reads in ap₂ (asked_with has_lists) same.0 same.1
 
-pub head_decides : (input : List ℕ) (head : RequestHead) (rest : List ℕ) (received : Received) → IsHead input head rest → Means input received → Answers (asked head rest) received
-head_decides input head rest received.Nothing is means =
+pub head_decides : (has_lists : Bool) (input : List ℕ) (head : RequestHead) (rest : List ℕ) (received : Received)
+    → IsHead input head rest → MeansWith has_lists input received → Answers (asked_with has_lists head rest) received
+head_decides has_lists input head rest received.Nothing is means =
     let some = print_request-filled head is.reads.0.method.0 in
     let none = ap length (sym is.reads.1 ∙ means) in
     absurd (omega (arith, length-append (print_request head) rest))
-head_decides input head rest received.Failed is means = tt
-head_decides input head rest received.Memory is means = tt
-head_decides input head rest (received.Refused fault) is (inl (k, q, isk, e)) = same_asked input head k rest q is isk ∙ e
-head_decides input head rest (received.Refused fault) is (inr (inl (which, (some, inl never)))) =
+head_decides has_lists input head rest received.Failed is means = tt
+head_decides has_lists input head rest received.Memory is means = tt
+head_decides has_lists input head rest (received.Refused fault) is (inl (k, q, isk, e)) =
+    same_asked has_lists input head k rest q is isk ∙ e
+head_decides has_lists input head rest (received.Refused fault) is (inr (inl (which, (some, inl never)))) =
     let front = front_reads input head rest is in
     absurd (never [] head (front.0 ++ []) (ReadsRequest-append (take head_limit input) head front.0 [] front.1))
-head_decides input head rest (received.Refused fault) is (inr (inl (which, (some, inr (short, none))))) = absurd (none head rest is.reads)
-head_decides input head rest (received.Refused fault) is (inr (inr (which, inl (long, unfinished)))) =
+head_decides has_lists input head rest (received.Refused fault) is (inr (inl (which, (some, inr (short, none))))) =
+    absurd (none head rest is.reads)
+head_decides has_lists input head rest (received.Refused fault) is (inr (inr (which, inl (long, unfinished)))) =
     let front = front_reads input head rest is in
     absurd (unfinished.0 head front.0 front.1)
-head_decides input head rest (received.Refused fault) is (inr (inr (which, inr many))) =
+head_decides has_lists input head rest (received.Refused fault) is (inr (inr (which, inr many))) =
     let over = many.0 [] head (rest ++ []) (ReadsRequest-append input head rest [] is.reads) in
     absurd (omega (arith, is.fields))
-head_decides input head rest (received.Asked request) is (k, q, isk, e) = same_asked input head k rest q is isk ∙ e
+head_decides has_lists input head rest (received.Asked request) is (k, q, isk, e) =
+    same_asked has_lists input head k rest q is isk ∙ e
 
 -- memory runs out only after the head that the input begins with
-pub head_memory : (input : List ℕ) (head : RequestHead) (rest : List ℕ) → IsHead input head rest → Means input received.Memory → TakesMemory (wanted_of head)
-head_memory input head rest is (k, q, isk, takes) =
-    let same = request_unique input head k rest q is.reads isk.reads in subst (λ h. TakesMemory (wanted_of h)) (sym same.0) takes
+pub head_memory : (has_lists : Bool) (input : List ℕ) (head : RequestHead) (rest : List ℕ) → IsHead input head rest
+    → MeansWith has_lists input received.Memory → TakesMemory (wanted_of_with has_lists head)
+head_memory has_lists input head rest is (k, q, isk, takes) =
+    let same = request_unique input head k rest q is.reads isk.reads in
+    subst (λ h. TakesMemory (wanted_of_with has_lists h)) (sym same.0) takes
 
 -- ---- what follows a request
 
@@ -66,12 +75,14 @@ pub IsHead-append : (input : List ℕ) (head : RequestHead) (rest more : List �
 IsHead-append input head rest more is = record { reads = ReadsRequest-append input head rest more is.reads; within = is.within; fields = is.fields }
 
 -- a body that came whole stays what it is
-pub body-more : (kind : CommandKind) (count : ℕ) (rest more : List ℕ) → count ≤ length rest → body_asked kind count (rest ++ more) ≡ body_asked kind count rest
+pub body-more : (kind : BodyKind) (count : ℕ) (rest more : List ℕ) → count ≤ length rest
+    → body_asked kind count (rest ++ more) ≡ body_asked kind count rest
 body-more kind count rest more fits =
     body_asked-whole kind count (rest ++ more) (take count rest) (omega (arith, length-append rest more)) (sym (take-append-le count rest more fits))
     ∙ sym (body_asked-whole kind count rest (take count rest) fits refl)
 
-body-stays : (kind : CommandKind) (count : ℕ) (rest more : List ℕ) (b : Bool) → nat_le count (length rest) ≡ b → ¬ (body_asked kind count rest ≡ Err BodyCut)
+body-stays : (kind : BodyKind) (count : ℕ) (rest more : List ℕ) (b : Bool) → nat_le count (length rest) ≡ b
+    → ¬ (body_asked kind count rest ≡ Err BodyCut)
     → body_asked kind count (rest ++ more) ≡ body_asked kind count rest
 body-stays kind count rest more true is whole = body-more kind count rest more (grind (arith, nat_tests))
 body-stays kind count rest more false is whole = absurd (whole (body_asked-cut kind count rest (grind (arith, nat_tests))))
@@ -92,24 +103,29 @@ err-not_cut : (what : Result Request Fault) (fault : Fault) → what ≡ Err fau
 err-not_cut what fault is other cut = let e = sym is ∙ cut in other cc
 
 -- a request stays what it is, whatever follows it
-pub asked-means_more : (input more : List ℕ) (request : Request) → Means input (received.Asked request) → Means (input ++ more) (received.Asked request)
-asked-means_more input more request (head, rest, is, e) = (
+pub asked-means_more : (has_lists : Bool) (input more : List ℕ) (request : Request)
+    → MeansWith has_lists input (received.Asked request) → MeansWith has_lists (input ++ more) (received.Asked request)
+asked-means_more has_lists input more request (head, rest, is, e) = (
   head,
   rest ++ more,
   IsHead-append input head rest more is,
-  asked-stays (wanted_of head) rest more (ok-not_cut (asked head rest) request e) ∙ e,
+  asked-stays (wanted_of_with has_lists head) rest more (ok-not_cut (asked_with has_lists head rest) request e) ∙ e,
 )
 
 -- a fault stays what it is, whatever follows, but for an end of the input that came too early
-pub refused-means_more : (input more : List ℕ) (fault : Fault) → ¬ (fault ≡ BodyCut) → ¬ (fault ≡ BadHead) → Means input (received.Refused fault) → Means (input ++ more) (received.Refused fault)
-refused-means_more input more fault whole good (inl (head, rest, is, e)) = inl (
+pub refused-means_more : (has_lists : Bool) (input more : List ℕ) (fault : Fault) → ¬ (fault ≡ BodyCut)
+    → ¬ (fault ≡ BadHead) → MeansWith has_lists input (received.Refused fault)
+    → MeansWith has_lists (input ++ more) (received.Refused fault)
+refused-means_more has_lists input more fault whole good (inl (head, rest, is, e)) = inl (
   head,
   rest ++ more,
   IsHead-append input head rest more is,
-  asked-stays (wanted_of head) rest more (err-not_cut (asked head rest) fault e whole) ∙ e,
+  asked-stays (wanted_of_with has_lists head) rest more
+      (err-not_cut (asked_with has_lists head rest) fault e whole) ∙ e,
 )
-refused-means_more input more fault whole good (inr (inl (which, bad))) = absurd (good which)
-refused-means_more input more fault whole good (inr (inr (which, inl (long, unfinished)))) =
+refused-means_more has_lists input more fault whole good (inr (inl (which, bad))) = absurd (good which)
+refused-means_more has_lists input more fault whole good (inr (inr (which, inl (long, unfinished)))) =
     let size : head_limit ≤ length (input ++ more) = omega (arith, length-append input more) in
     inr (inr (which, inl (size, subst IsUnfinished (sym (take-append-le head_limit input more long)) unfinished)))
-refused-means_more input more fault whole good (inr (inr (which, inr many))) = inr (inr (which, inr (HasManyFields-append input more many)))
+refused-means_more has_lists input more fault whole good (inr (inr (which, inr many))) =
+    inr (inr (which, inr (HasManyFields-append input more many)))

@@ -5,6 +5,8 @@ pub mod ExchangeLemmas
 pub mod KeyLemmas
 pub mod LawLemmas
 pub mod LiteralLemmas
+pub mod MergeAnswerLemmas
+pub mod MergeLemmas
 pub mod OneLineLemmas
 pub mod PlainLemmas
 pub mod QueryLemmas

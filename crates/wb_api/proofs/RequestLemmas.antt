@@ -7,11 +7,11 @@ use Rattle.std.proofs.Math.Seq.{take-append-add, take-append_seam}
 use Rattle.httparse.specs.Grammar.{HasNoRequest, NeverHasRequest, ReadsRequest, RequestHead}
 use Rattle.httparse.specs.Spans.{name_and_value}
 use Rattle.httparse.proofs.GrammarLemmas.{ReadsRequest-append}
-use Rattle.wb_api.specs.Commands.{command_of}
 use Rattle.wb_streams.proofs.StreamLemmas.{Consumes-nil}
 use Rattle.wb_streams.specs.Fields.{NameAndValue}
 use Rattle.wb_streams.specs.Heads.{HasManyFields, IsHeadAt, IsMalformed, IsTooLarge, IsUnfinished, head_limit}
-use Rattle.wb_api.specs.Requests.{Answers, DecodesPath, IsHead, LacksRest, Means, TakesMemory, WantsOr, asked, asked_in, body_asked, query_wanted, wanted_from, wanted_of}
+use Rattle.wb_api.specs.Requests.{Answers, DecodesPath, IsHead, LacksRest, MeansWith, TakesMemory, WantsOr, asked_in}
+use Rattle.wb_api.specs.Requests.{asked_with, body_asked, query_wanted, wanted_from_with, wanted_of_with}
 use Rattle.wb_api.specs.Routes.{and_then, decoded_text, part_at, query_about, query_of}
 use Rattle.wb_states.specs.declared.query.Query.{Query}
 use Rattle.wb_states.specs.declared.query.Query.TheVariants as query
@@ -25,21 +25,21 @@ use Rattle.wb_streams.specs.declared.fault.Fault.TheVariants.{BadHead, BadPath, 
 use Rattle.wb_api.specs.declared.failure.RequestError.{RequestError}
 use Rattle.wb_api.specs.declared.request.Received.{Received}
 use Rattle.wb_api.specs.declared.request.Received.TheVariants as received
-use Rattle.wb_api.specs.declared.request.Request.TheVariants as request
 use Rattle.wb_api.specs.declared.request.Wanted.{Wanted}
-use Rattle.wb_api.specs.declared.route.CommandKind.{CommandKind}
+use Rattle.wb_api.specs.declared.route.BodyKind.{BodyKind}
 use Rattle.wb_api.specs.declared.route.QueryKind.{QueryKind}
 use Rattle.wb_api.specs.declared.route.QueryKind.TheVariants as query_kind
 
 -- what is wanted by the parts of a head is what the head wants
-pub wanted_same : (result : Result Wanted RequestError) (head other : RequestHead) (method target : List ℕ) (fields : List NameAndValue)
+pub wanted_same : (has_lists : Bool) (result : Result Wanted RequestError) (head other : RequestHead)
+    (method target : List ℕ) (fields : List NameAndValue)
     → head ≡ other → method ≡ other.method → target ≡ other.target → fields ≡ map name_and_value other.fields
-    → WantsOr result (wanted_from method target fields) → WantsOr result (wanted_of head)
-wanted_same result head other method target fields same em et ef h =
-    let one = subst (λ m. WantsOr result (wanted_from m target fields)) em h in
-    let two = subst (λ t. WantsOr result (wanted_from other.method t fields)) et one in
-    let three = subst (λ f. WantsOr result (wanted_from other.method other.target f)) ef two in
-    subst (λ k. WantsOr result (wanted_of k)) (sym same) three
+    → WantsOr result (wanted_from_with has_lists method target fields) → WantsOr result (wanted_of_with has_lists head)
+wanted_same has_lists result head other method target fields same em et ef h =
+    let one = subst (λ m. WantsOr result (wanted_from_with has_lists m target fields)) em h in
+    let two = subst (λ t. WantsOr result (wanted_from_with has_lists other.method t fields)) et one in
+    let three = subst (λ f. WantsOr result (wanted_from_with has_lists other.method other.target f)) ef two in
+    subst (λ k. WantsOr result (wanted_of_with has_lists k)) (sym same) three
 
 -- ---- queries
 
@@ -93,23 +93,25 @@ query_wants kind method target failed get gives = rw get (wants-Err (query_of ki
 
 -- ---- bodies
 
-pub body_asked-whole : (kind : CommandKind) (count : ℕ) (rest body : List ℕ) → count ≤ length rest → body ≡ take count rest
-    → body_asked kind count rest ≡ and_then (command_of kind body) (λ command. Ok (request.Command command))
+pub body_asked-whole : (kind : BodyKind) (count : ℕ) (rest body : List ℕ) → count ≤ length rest → body ≡ take count rest
+    → body_asked kind count rest ≡ asked_in kind body
 unfolding body_asked
 body_asked-whole kind count rest body fits is =
     let t : nat_le count (length rest) ≡ true = grind (arith, nat_tests) in
-    rw t (ap (λ b. and_then (command_of kind b) (λ command. Ok (request.Command command))) (sym is))
+    rw t (ap (λ b. asked_in kind b) (sym is))
 
-pub body_asked-cut : (kind : CommandKind) (count : ℕ) (rest : List ℕ) → length rest < count → body_asked kind count rest ≡ Err BodyCut
+pub body_asked-cut : (kind : BodyKind) (count : ℕ) (rest : List ℕ) → length rest < count
+    → body_asked kind count rest ≡ Err BodyCut
 unfolding body_asked
 body_asked-cut kind count rest short =
     let f : nat_le count (length rest) ≡ false = grind (arith, nat_tests) in
     rw f refl
 
 -- what the whole of a body asks for, whatever is left after it
-pub body_whole : (old new : Option (List ℕ)) (already taken body : List ℕ) (kind : CommandKind) (count : ℕ) (result : Received)
-    → Consumes old new taken → count ≤ length (already ++ taken) → body ≡ take count (already ++ taken)
-    → Answers (and_then (command_of kind body) (λ command. Ok (request.Command command))) result
+pub body_whole : (old new : Option (List ℕ)) (already taken body : List ℕ) (kind : BodyKind) (count : ℕ)
+    (result : Received) → Consumes old new taken → count ≤ length (already ++ taken)
+    → body ≡ take count (already ++ taken)
+    → Answers (asked_in kind body) result
     → IfSome old (λ left. Answers (body_asked kind count (already ++ left)) result)
 body_whole None new already taken body kind count result p fits is h = tt
 body_whole (Some l) None already taken body kind count result p fits is h = absurd p
@@ -121,7 +123,7 @@ body_whole (Some l) (Some r) already taken body kind count result p fits is h =
     subst (λ x. Answers (body_asked kind count x) result) (sym all) (subst (λ x. Answers x result) (sym same) h)
 
 -- what a body asks for that came whole with its head
-pub body_here : (old : Option (List ℕ)) (already body : List ℕ) (kind : CommandKind) (count : ℕ) (result : Received)
+pub body_here : (old : Option (List ℕ)) (already body : List ℕ) (kind : BodyKind) (count : ℕ) (result : Received)
     → Answers (asked_in kind body) result → count ≤ length already → body ≡ take count already
     → IfSome old (λ left. Answers (body_asked kind count (already ++ left)) result)
 body_here old already body kind count result h fits is =
@@ -142,7 +144,7 @@ decodes-lacks (Ok (wanted.Body kind count)) already decodes = absurd decodes
 decodes-lacks (Err fault) already decodes = (decodes, refl)
 
 -- a body that the input ends before
-pub body_cut : (old new : Option (List ℕ)) (already taken : List ℕ) (kind : CommandKind) (count : ℕ)
+pub body_cut : (old new : Option (List ℕ)) (already taken : List ℕ) (kind : BodyKind) (count : ℕ)
     → Consumes old new taken → IsAtEnd new → length (already ++ taken) < count
     → IfSome old (λ left. body_asked kind count (already ++ left) ≡ Err BodyCut)
 body_cut None new already taken kind count p end short = tt
@@ -163,25 +165,29 @@ IsHead-from seen left count head at within = record {
 }
 
 -- what follows a head is what the input asks for
-pub means_by : (input : List ℕ) (head : RequestHead) (rest : List ℕ) (result : Received) → IsHead input head rest → (result ≡ received.Memory → TakesMemory (wanted_of head))
-    → Answers (asked head rest) result → Means input result
-means_by input head rest received.Nothing is memory h = absurd h
-means_by input head rest received.Failed is memory h = tt
-means_by input head rest received.Memory is memory h = (head, rest, is, memory refl)
-means_by input head rest (received.Refused fault) is memory h = inl (head, rest, is, h)
-means_by input head rest (received.Asked asks) is memory h = (head, rest, is, h)
+pub means_by : (has_lists : Bool) (input : List ℕ) (head : RequestHead) (rest : List ℕ) (result : Received)
+    → IsHead input head rest → (result ≡ received.Memory → TakesMemory (wanted_of_with has_lists head))
+    → Answers (asked_with has_lists head rest) result → MeansWith has_lists input result
+means_by has_lists input head rest received.Nothing is memory h = absurd h
+means_by has_lists input head rest received.Failed is memory h = tt
+means_by has_lists input head rest received.Memory is memory h = (head, rest, is, memory refl)
+means_by has_lists input head rest (received.Refused fault) is memory h = inl (head, rest, is, h)
+means_by has_lists input head rest (received.Asked asks) is memory h = (head, rest, is, h)
 
 -- a head came, and what follows it is known
-pub means_head : (old new : Option (List ℕ)) (seen : List ℕ) (count : ℕ) (head : RequestHead) (result : Received)
-    → Consumes old new seen → length seen ≤ head_limit → IsHeadAt seen count head
-    → ((result ≡ received.Memory) → (k : RequestHead) → IsHeadAt seen count k → TakesMemory (wanted_of k))
-    → IfSome new (λ left. (k : RequestHead) → IsHeadAt seen count k → Answers (asked k (drop count seen ++ left)) result)
-    → IfSome old (λ input. Means input result)
-means_head None new seen count head result p within at memory h = tt
-means_head (Some l) None seen count head result p within at memory h = absurd p
-means_head (Some l) (Some r) seen count head result p within at memory h =
-    subst (λ x. Means x result) (sym p)
-    (means_by (seen ++ r) head (drop count seen ++ r) result (IsHead-from seen r count head at within) (λ is. memory is head at) (h head at))
+pub means_head : (has_lists : Bool) (old new : Option (List ℕ)) (seen : List ℕ) (count : ℕ) (head : RequestHead)
+    (result : Received) → Consumes old new seen → length seen ≤ head_limit → IsHeadAt seen count head
+    → ((result ≡ received.Memory) → (k : RequestHead) → IsHeadAt seen count k
+    → TakesMemory (wanted_of_with has_lists k))
+    → IfSome new (λ left. (k : RequestHead) → IsHeadAt seen count k
+    → Answers (asked_with has_lists k (drop count seen ++ left)) result)
+    → IfSome old (λ input. MeansWith has_lists input result)
+means_head has_lists None new seen count head result p within at memory h = tt
+means_head has_lists (Some l) None seen count head result p within at memory h = absurd p
+means_head has_lists (Some l) (Some r) seen count head result p within at memory h =
+    subst (λ x. MeansWith has_lists x result) (sym p)
+    (means_by has_lists (seen ++ r) head (drop count seen ++ r) result (IsHead-from seen r count head at within)
+    (λ is. memory is head at) (h head at))
 
 pub NeverHasRequest-append : (xs ys : List ℕ) → NeverHasRequest xs → NeverHasRequest (xs ++ ys)
 NeverHasRequest-append xs ys never = λ more. subst HasNoRequest (sym (append_assoc xs ys more)) (never (ys ++ more))
@@ -193,18 +199,20 @@ front_of_seen seen left within =
     (take (head_limit - length seen) left, ap (λ n. take n (seen ++ left)) size ∙ take-append-add seen left (head_limit - length seen))
 
 -- an input that begins with no head
-pub means_malformed : (old new : Option (List ℕ)) (seen : List ℕ) → Consumes old new seen → 0 < length seen → IsMalformed seen new
-    → IfSome old (λ input. Means input (received.Refused BadHead))
-means_malformed None new seen p some bad = tt
-means_malformed (Some l) None seen p some bad = absurd p
-means_malformed (Some l) (Some r) seen p some (within, inl never) =
+pub means_malformed : (has_lists : Bool) (old new : Option (List ℕ)) (seen : List ℕ) → Consumes old new seen
+    → 0 < length seen → IsMalformed seen new
+    → IfSome old (λ input. MeansWith has_lists input (received.Refused BadHead))
+means_malformed has_lists None new seen p some bad = tt
+means_malformed has_lists (Some l) None seen p some bad = absurd p
+means_malformed has_lists (Some l) (Some r) seen p some (within, inl never) =
     let front = front_of_seen seen r within in
     let long : 0 < length (seen ++ r) = omega (arith, length-append seen r) in
-    subst (λ x. Means x (received.Refused BadHead)) (sym p)
+    subst (λ x. MeansWith has_lists x (received.Refused BadHead)) (sym p)
     (inr (inl (refl, (long, inl (subst NeverHasRequest (sym front.1) (NeverHasRequest-append seen front.0 never))))))
-means_malformed (Some l) (Some r) seen p some (within, inr (short, none, end)) =
+means_malformed has_lists (Some l) (Some r) seen p some (within, inr (short, none, end)) =
     let all : l ≡ seen = p ∙ ap (λ x. seen ++ x) end ∙ append-nil seen in
-    subst (λ x. Means x (received.Refused BadHead)) (sym all) (inr (inl (refl, (some, inr (short, none)))))
+    subst (λ x. MeansWith has_lists x (received.Refused BadHead)) (sym all)
+    (inr (inl (refl, (some, inr (short, none)))))
 
 pub HasManyFields-append : (xs ys : List ℕ) → HasManyFields xs → HasManyFields (xs ++ ys)
 HasManyFields-append xs ys (over, exceeds) = (
@@ -213,20 +221,23 @@ HasManyFields-append xs ys (over, exceeds) = (
 )
 
 -- an input whose head is too large
-pub means_large : (old new : Option (List ℕ)) (seen : List ℕ) → Consumes old new seen → IsTooLarge seen
-    → IfSome old (λ input. Means input (received.Refused HeadTooLarge))
-means_large None new seen p large = tt
-means_large (Some l) None seen p large = absurd p
-means_large (Some l) (Some r) seen p (within, inl (long, unfinished)) =
+pub means_large : (has_lists : Bool) (old new : Option (List ℕ)) (seen : List ℕ) → Consumes old new seen
+    → IsTooLarge seen
+    → IfSome old (λ input. MeansWith has_lists input (received.Refused HeadTooLarge))
+means_large has_lists None new seen p large = tt
+means_large has_lists (Some l) None seen p large = absurd p
+means_large has_lists (Some l) (Some r) seen p (within, inl (long, unfinished)) =
     let front : take head_limit (seen ++ r) ≡ seen = ap (λ n. take n (seen ++ r)) (sym long) ∙ take-append_seam seen r in
     let size : head_limit ≤ length (seen ++ r) = omega (arith, length-append seen r) in
-    subst (λ x. Means x (received.Refused HeadTooLarge)) (sym p)
+    subst (λ x. MeansWith has_lists x (received.Refused HeadTooLarge)) (sym p)
     (inr (inr (refl, inl (size, subst IsUnfinished (sym front) unfinished))))
-means_large (Some l) (Some r) seen p (within, inr many) =
-    subst (λ x. Means x (received.Refused HeadTooLarge)) (sym p) (inr (inr (refl, inr (HasManyFields-append seen r many))))
+means_large has_lists (Some l) (Some r) seen p (within, inr many) =
+    subst (λ x. MeansWith has_lists x (received.Refused HeadTooLarge)) (sym p)
+    (inr (inr (refl, inr (HasManyFields-append seen r many))))
 
 -- an input without a byte
-pub means_nothing : (old new : Option (List ℕ)) → Consumes old new [] → IsAtEnd new → IfSome old (λ input. Means input received.Nothing)
-means_nothing None new p end = tt
-means_nothing (Some l) None p end = absurd p
-means_nothing (Some l) (Some r) p end = p ∙ end
+pub means_nothing : (has_lists : Bool) (old new : Option (List ℕ)) → Consumes old new [] → IsAtEnd new
+    → IfSome old (λ input. MeansWith has_lists input received.Nothing)
+means_nothing has_lists None new p end = tt
+means_nothing has_lists (Some l) None p end = absurd p
+means_nothing has_lists (Some l) (Some r) p end = p ∙ end

@@ -1,5 +1,5 @@
 -- What is answered to a request over HTTP, and what the request does to the office.
-use Rattle.std.specs.Prelude.{◌≡◌, ◌⊎◌, ℕ, Bool, true, false, List, Option, IfSome}
+use Rattle.std.specs.Prelude.{◌≡◌, ◌⊎◌, ℕ, Bool, true, false, List, Option, Result, Ok, Err, IfSome}
 use Rattle.std.specs.Cow.{cow_str_bytes}
 use Rattle.std.specs.Io.KnownBytes.{Appends, Consumes}
 use Rattle.wb_states.specs.Machine.{Machine}
@@ -9,12 +9,16 @@ use Rattle.wb_states.specs.declared.refusal.Refusal.TheVariants.{UnknownArch, Un
 use Rattle.wb_states.specs.declared.store_fault.StoreFault.{StoreFault}
 use Rattle.wb_step.specs.Offices.{Accepts, Leads, Standing, Open, InDoubt, Failed}
 use Rattle.wb_states.specs.Queries.{has_malformed_name}
+use Rattle.wb_lists.specs.Lists.{MayRead, MayReadMerge, LacksMerge, no_lists}
+use Rattle.wb_lists.specs.declared.names.MergeNames.{MergeNames}
 use Rattle.wb_api.specs.Memory.{MayLackMemory}
-use Rattle.wb_api.specs.Responses.{Form, IsRefusedByStore, Response, command_response, memory_response, query_response}
+use Rattle.wb_api.specs.Responses.{Form, IsMergeResponse, IsRefusedByStore, Response}
+use Rattle.wb_api.specs.Responses.{command_response, memory_response, query_response}
 use Rattle.wb_streams.specs.Answers.{answer_bytes, fault_text, status_of_fault}
 use Rattle.wb_streams.specs.Streams.{AppendsFront}
-use Rattle.wb_api.specs.Requests.{IsRequestFront, IsWithinRequest, LacksMemory, Means, is_failed}
+use Rattle.wb_api.specs.Requests.{IsRequestFrontWith, IsWithinRequestWith, LacksMemoryWith, MeansWith, is_failed}
 use Rattle.wb_streams.specs.declared.fault.Fault.{Fault}
+use Rattle.wb_streams.specs.declared.fault.Fault.TheVariants.{NoList}
 use Rattle.wb_api.specs.declared.request.Received.{Received}
 use Rattle.wb_api.specs.declared.request.Received.TheVariants as received
 use Rattle.wb_api.specs.declared.request.Request.{Request}
@@ -80,10 +84,34 @@ IsQueryAnswer machine query response standing =
     ⊎ ((has_malformed_name query ≡ false) × (response ≡ memory_response over_http machine))) × (standing ≡ Open))
     ⊎ IsRefusedByStore over_http machine Failed response standing
 
--- what may be answered to a request
+-- what may be answered to the merge of the lists of these names: what the merge of what they may be read as comes to;
+-- or, before the office is asked, that
+-- one of them cannot be opened, or that there is no memory for them; or that the store refused the merge
+abbrev pub IsMergeAnswer : MayRead → Machine → MergeNames → Response → Standing → Type 0
+IsMergeAnswer may_read machine names response standing =
+    ((IsMergeResponse over_http may_read names.sources names.parts machine response
+    ⊎ ((LacksMerge may_read names.sources names.parts × (response ≡ fault_response machine NoList))
+    ⊎ (response ≡ memory_response over_http machine))) × (standing ≡ Open))
+    ⊎ ((command : Command) × MayReadMerge may_read names.sources names.parts command
+    × IsRefusedByStore over_http machine (InDoubt command) response standing)
+
+-- what may be answered to a request, by what the lists that it names may be read as
+abbrev pub IsAnswerWith : MayRead → Machine → Request → Response → Standing → Type 0
+IsAnswerWith may_read machine (request.Command command) response standing =
+    IsCommandAnswer machine command response standing
+IsAnswerWith may_read machine (request.Query query) response standing = IsQueryAnswer machine query response standing
+IsAnswerWith may_read machine (request.Merge names) response standing =
+    IsMergeAnswer may_read machine names response standing
+
+-- what may be answered to a request, without lists
 abbrev pub IsAnswer : Machine → Request → Response → Standing → Type 0
-IsAnswer machine (request.Command command) response standing = IsCommandAnswer machine command response standing
-IsAnswer machine (request.Query query) response standing = IsQueryAnswer machine query response standing
+IsAnswer machine asked response standing = IsAnswerWith no_lists machine asked response standing
+
+-- a request asks for this command: it is the command, or the merge that the lists which it names may be read as
+abbrev pub AsksFor : MayRead → Request → Command → Type 0
+AsksFor may_read (request.Command asked) command = asked ≡ command
+AsksFor may_read (request.Query query) command = ⊥
+AsksFor may_read (request.Merge names) command = MayReadMerge may_read names.sources names.parts command
 
 -- the office came to a state of which this is so, and it stands open there unless it is closed now
 abbrev pub LeadsOn : {X : Type 0} → (X → Type 0) → (X → Type 0) → (X → Machine → Type 0)
@@ -100,24 +128,36 @@ Sends response old new (served.WriteFailed status) = (status ≡ response.status
 Sends response old new result = ⊥
 
 -- a request was answered, or its command was accepted and nothing was written, since there is no memory for the reply
-abbrev pub Responds : Request → Machine → Machine → Standing → Option (List ℕ) → Option (List ℕ) → Served → Type 0
-Responds asked before after standing old new result =
-    ((response : Response) × IsAnswer before asked response standing × (after ≡ response.machine) × Sends response old new result)
-    ⊎ ((command : Command) × (asked ≡ request.Command command) × Accepts before command after
+abbrev pub RespondsWith : MayRead → Request → Machine → Machine → Standing → Option (List ℕ) → Option (List ℕ) → Served
+    → Type 0
+RespondsWith may_read asked before after standing old new result =
+    ((response : Response) × IsAnswerWith may_read before asked response standing × (after ≡ response.machine)
+    × Sends response old new result)
+    ⊎ ((command : Command) × AsksFor may_read asked command × Accepts before command after
     × (standing ≡ Open) × (new ≡ old) × (result ≡ served.Mute))
 
--- what an exchange did about what was received: only a request has the office do anything
-abbrev pub Exchanges : Received → Machine → Machine → Standing → Option (List ℕ) → Option (List ℕ) → Served → Type 0
-Exchanges received.Nothing before after standing old new result =
+-- a request was answered, or its command was accepted and nothing was written, without lists
+abbrev pub Responds : Request → Machine → Machine → Standing → Option (List ℕ) → Option (List ℕ) → Served → Type 0
+Responds asked before after standing old new result = RespondsWith no_lists asked before after standing old new result
+
+-- what an exchange did about what was received, by what lists may be read as: only a request has the office do anything
+abbrev pub ExchangesWith : MayRead → Received → Machine → Machine → Standing → Option (List ℕ) → Option (List ℕ)
+    → Served → Type 0
+ExchangesWith may_read received.Nothing before after standing old new result =
     (after ≡ before) × (standing ≡ Open) × (new ≡ old) × (result ≡ served.Nothing)
-Exchanges received.Failed before after standing old new result =
+ExchangesWith may_read received.Failed before after standing old new result =
     (after ≡ before) × (standing ≡ Open) × (new ≡ old) × (result ≡ served.ReadFailed)
-Exchanges received.Memory before after standing old new result =
+ExchangesWith may_read received.Memory before after standing old new result =
     (after ≡ before) × (standing ≡ Open) × Sends (memory_response over_http before) old new result
-Exchanges (received.Refused fault) before after standing old new result =
+ExchangesWith may_read (received.Refused fault) before after standing old new result =
     (after ≡ before) × (standing ≡ Open) × Sends (fault_response before fault) old new result
-Exchanges (received.Asked request) before after standing old new result =
-    Responds request before after standing old new result
+ExchangesWith may_read (received.Asked asked) before after standing old new result =
+    RespondsWith may_read asked before after standing old new result
+
+-- what an exchange did about what was received, without lists
+abbrev pub Exchanges : Received → Machine → Machine → Standing → Option (List ℕ) → Option (List ℕ) → Served → Type 0
+Exchanges received before after standing old new result =
+    ExchangesWith no_lists received before after standing old new result
 
 -- whether a request was received
 abbrev pub is_asked : Received → Bool
@@ -127,15 +167,40 @@ is_asked received.Memory = false
 is_asked (received.Refused fault) = false
 is_asked (received.Asked request) = true
 
--- what was received is what the bytes of the reader mean, if they are known; the flag of the reader is set if the reader failed, and then what was
--- read before was the front of a request, and not all of one; no more is read than a request, with what the reads of its head may take; and memory ran out only
--- for a path, for a body of which nothing more was read, or for a body that is a text
-pub record Receives (old new : Stream) (came : Received) : Type 0 where
-  pub value : IfSome old.bytes (λ input. Means input came)
+-- whether a merge was received, for which lists are opened
+abbrev pub is_merge : Received → Bool
+is_merge (received.Asked (request.Merge names)) = true
+is_merge came = false
+
+-- what was received is what the bytes of the reader mean, if they are known, where lists are served or not; the flag of
+-- the reader is set if the reader failed,
+-- and then what was read before was the front of a request, and not all of one; no more is read than a request, with
+-- what the reads of its head may take; and
+-- memory ran out only for a path, for a body of which nothing more was read, or for a body that is a text
+pub record ReceivesWith (has_lists : Bool) (old new : Stream) (came : Received) : Type 0 where
+  pub value : IfSome old.bytes (λ input. MeansWith has_lists input came)
   pub failed : Flags (is_failed came) old new
-  pub front : came ≡ received.Failed → (seen : List ℕ) × Consumes old.bytes new.bytes seen × IsRequestFront seen
-  pub bound : (seen : List ℕ) × Consumes old.bytes new.bytes seen × IsWithinRequest seen
-  pub memory : came ≡ received.Memory → LacksMemory old.bytes new.bytes
+  pub front : came ≡ received.Failed → (seen : List ℕ) × Consumes old.bytes new.bytes seen
+      × IsRequestFrontWith has_lists seen
+  pub bound : (seen : List ℕ) × Consumes old.bytes new.bytes seen × IsWithinRequestWith has_lists seen
+  pub memory : came ≡ received.Memory → LacksMemoryWith has_lists old.bytes new.bytes
+
+-- what was received is what the bytes of the reader mean, without lists
+abbrev pub Receives : Stream → Stream → Received → Type 0
+Receives old new came = ReceivesWith false old new came
+
+-- what was written about what was received, in this state of the office, if it is no request
+abbrev pub EndsUnasked : Received → Machine → Option (List ℕ) → Option (List ℕ) → Served → Type 0
+EndsUnasked received.Nothing machine old new result = (new ≡ old) × (result ≡ served.Nothing)
+EndsUnasked received.Failed machine old new result = (new ≡ old) × (result ≡ served.ReadFailed)
+EndsUnasked received.Memory machine old new result = Sends (memory_response over_http machine) old new result
+EndsUnasked (received.Refused fault) machine old new result = Sends (fault_response machine fault) old new result
+EndsUnasked (received.Asked asked) machine old new result = ⊥
+
+-- a request was received, and nothing was written; or something else, and the exchange ended so
+abbrev pub Begins : Received → Stream → Stream → Result Request Served → Type 0
+Begins came old new (Ok asked) = (came ≡ received.Asked asked) × (new ≡ old)
+Begins came old new (Err result) = (machine : Machine) → EndsUnasked came machine old.bytes new.bytes result
 
 -- whether an exchange ended without an answer
 abbrev pub is_silent : Served → Bool

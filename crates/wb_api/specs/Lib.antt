@@ -4,6 +4,7 @@ pub mod Encoding
 pub mod Exchange
 pub mod Keys
 pub mod Memory
+pub mod Merges
 pub mod Outcomes
 pub mod Queries
 pub mod QueryValues

@@ -6,6 +6,7 @@ use Rattle.std.specs.Str.{bytes_eq}
 use Rattle.httparse.specs.Grammar.{Field, HasNoRequest, NeverHasRequest, ReadsRequest, RequestHead, crlf, print_request}
 use Rattle.httparse.specs.Spans.{name_and_value}
 use Rattle.wb_api.specs.Commands.{IsText, command_of}
+use Rattle.wb_api.specs.Merges.{merge_of}
 use Rattle.wb_streams.specs.Fields.{NameAndValue, content_length, has_field, is_from_browser, length_stated, values_of}
 use Rattle.wb_streams.specs.Heads.{HasManyFields, IsHeadFront, IsUnfinished, field_limit, head_limit}
 use Rattle.wb_api.specs.Routes.{and_then, query_of, route_at}
@@ -19,14 +20,15 @@ use Rattle.wb_api.specs.declared.request.Request.{Request}
 use Rattle.wb_api.specs.declared.request.Request.TheVariants as request
 use Rattle.wb_api.specs.declared.request.Wanted.{Wanted}
 use Rattle.wb_api.specs.declared.request.Wanted.TheVariants as wanted
-use Rattle.wb_api.specs.declared.route.CommandKind.{CommandKind}
+use Rattle.wb_api.specs.declared.route.BodyKind.{BodyKind}
+use Rattle.wb_api.specs.declared.route.BodyKind.TheVariants as body_kind
 use Rattle.wb_api.specs.declared.route.QueryKind.{QueryKind}
 use Rattle.wb_api.specs.declared.route.Route.{Route}
 use Rattle.wb_api.specs.declared.route.Route.TheVariants as route
 
--- what the head of a command asks for: a body of the length that its fields state (RFC 9112, section 6)
-unfoldable pub command_wanted : CommandKind → List ℕ → List NameAndValue → Result Wanted Fault
-command_wanted kind method fields = if bytes_eq method (codes "POST")
+-- what the head of a command or a merge asks for: a body of the length that its fields state (RFC 9112, section 6)
+unfoldable pub body_wanted : BodyKind → List ℕ → List NameAndValue → Result Wanted Fault
+body_wanted kind method fields = if bytes_eq method (codes "POST")
     then (if has_field (codes "transfer-encoding") fields then Err NotSupported
     else and_then (length_stated (values_of content_length fields)) (λ n. Ok (wanted.Body kind n)))
     else Err WrongMethod
@@ -36,19 +38,27 @@ unfoldable pub query_wanted : QueryKind → List ℕ → List ℕ → Result Wan
 query_wanted kind method target = if bytes_eq method (codes "GET")
     then and_then (query_of kind target) (λ query. Ok (wanted.Query query)) else Err WrongMethod
 
--- what a head asks for whose target is for this, or for nothing
-abbrev pub wanted_by : Option Route → List ℕ → List ℕ → List NameAndValue → Result Wanted Fault
-wanted_by None method target fields = Err NoRoute
-wanted_by (Some (route.Command kind)) method target fields = command_wanted kind method fields
-wanted_by (Some (route.Query kind)) method target fields = query_wanted kind method target
+-- what a head asks for whose target is for this, or for nothing: without lists a merge is for nothing
+abbrev pub wanted_by_with : Bool → Option Route → List ℕ → List ℕ → List NameAndValue → Result Wanted Fault
+wanted_by_with has_lists None method target fields = Err NoRoute
+wanted_by_with has_lists (Some (route.Command kind)) method target fields =
+    body_wanted (body_kind.Command kind) method fields
+wanted_by_with has_lists (Some (route.Query kind)) method target fields = query_wanted kind method target
+wanted_by_with has_lists (Some route.Merge) method target fields =
+    if has_lists then body_wanted body_kind.Merge method fields else Err NoRoute
 
--- what a head of this method, target and fields asks for: nothing, if a web page had it sent
-abbrev pub wanted_from : List ℕ → List ℕ → List NameAndValue → Result Wanted Fault
-wanted_from method target fields = if is_from_browser fields then Err FromBrowser else wanted_by (route_at target) method target fields
+-- what a head of this method, target and fields asks for, with lists or without: nothing, if a web page had it sent
+abbrev pub wanted_from_with : Bool → List ℕ → List ℕ → List NameAndValue → Result Wanted Fault
+wanted_from_with has_lists method target fields =
+    if is_from_browser fields then Err FromBrowser else wanted_by_with has_lists (route_at target) method target fields
 
--- what a head asks for
+-- what a head asks for, with lists or without
+abbrev pub wanted_of_with : Bool → RequestHead → Result Wanted Fault
+wanted_of_with has_lists head = wanted_from_with has_lists head.method head.target (map name_and_value head.fields)
+
+-- what a head asks for, without lists
 abbrev pub wanted_of : RequestHead → Result Wanted Fault
-wanted_of head = wanted_from head.method head.target (map name_and_value head.fields)
+wanted_of head = wanted_of_with false head
 
 -- a head for which memory is taken: one without a fault, or one whose path is decoded before its fault is found
 abbrev pub TakesMemory : Result Wanted Fault → Type 0
@@ -68,11 +78,12 @@ WantsOr (Err (error.Fault fault)) what = what ≡ Err fault
 WantsOr (Err error.Memory) what = DecodesPath what
 
 -- what is asked for by the bytes of a body
-abbrev pub asked_in : CommandKind → List ℕ → Result Request Fault
-asked_in kind body = and_then (command_of kind body) (λ command. Ok (request.Command command))
+abbrev pub asked_in : BodyKind → List ℕ → Result Request Fault
+asked_in (body_kind.Command kind) body = and_then (command_of kind body) (λ command. Ok (request.Command command))
+asked_in body_kind.Merge body = and_then (merge_of body) (λ names. Ok (request.Merge names))
 
 -- what is asked for by a body of this many bytes at the front of what follows the head
-unfoldable pub body_asked : CommandKind → ℕ → List ℕ → Result Request Fault
+unfoldable pub body_asked : BodyKind → ℕ → List ℕ → Result Request Fault
 body_asked kind count rest = if nat_le count (length rest) then asked_in kind (take count rest) else Err BodyCut
 
 -- what is asked for, with what follows the head
@@ -80,17 +91,21 @@ abbrev pub asked_by : Wanted → List ℕ → Result Request Fault
 asked_by (wanted.Query query) rest = Ok (request.Query query)
 asked_by (wanted.Body kind count) rest = body_asked kind count rest
 
--- what a head and what follows it ask for
+-- what a head and what follows it ask for, with lists or without
+abbrev pub asked_with : Bool → RequestHead → List ℕ → Result Request Fault
+asked_with has_lists head rest = and_then (wanted_of_with has_lists head) (λ w. asked_by w rest)
+
+-- what a head and what follows it ask for, without lists
 abbrev pub asked : RequestHead → List ℕ → Result Request Fault
-asked head rest = and_then (wanted_of head) (λ w. asked_by w rest)
+asked head rest = asked_with false head rest
 
 -- a field of this name and value, as a client writes it
 abbrev pub field : List ℕ → List ℕ → Field
 field name value = record { name = name; raw = value; end = crlf }
 
--- what a request asks for with this method, this target, these fields and this body
-abbrev pub sent : List ℕ → List ℕ → List Field → List ℕ → Result Request Fault
-sent method target fields body = asked (record {
+-- the head of a request with this method, this target and these fields
+abbrev pub head_of : List ℕ → List ℕ → List Field → RequestHead
+head_of method target fields = record {
   blank = [];
   method = method;
   target = target;
@@ -98,15 +113,27 @@ sent method target fields body = asked (record {
   line_end = crlf;
   fields = fields;
   last = crlf;
-}) body
+}
+
+-- what a request asks for with this method, this target, these fields and this body
+abbrev pub sent : List ℕ → List ℕ → List Field → List ℕ → Result Request Fault
+sent method target fields body = asked (head_of method target fields) body
+
+-- the length of a body, as a field
+abbrev pub length_field : List ℕ → Field
+length_field body = field content_length (decimal (length body))
 
 -- what a POST asks for with this target, this body, and these fields beside the length of the body
 abbrev pub posted_with : List Field → List ℕ → List ℕ → Result Request Fault
-posted_with fields target body = sent (codes "POST") target (field content_length (decimal (length body)) ∷ fields) body
+posted_with fields target body = sent (codes "POST") target (length_field body ∷ fields) body
 
 -- what a POST asks for with this target, this body, and the length of the body as its only field
 abbrev pub posted : List ℕ → List ℕ → Result Request Fault
 posted target body = posted_with [] target body
+
+-- what a POST with this target and this body asks for, with lists, and the length of the body as its only field
+abbrev pub posted_beside_lists : List ℕ → List ℕ → Result Request Fault
+posted_beside_lists target body = asked_with true (head_of (codes "POST") target (length_field body ∷ [])) body
 
 -- what a GET asks for with this target and these fields
 abbrev pub got_with : List Field → List ℕ → Result Request Fault
@@ -143,15 +170,22 @@ Answers what received.Memory = ⊤
 Answers what (received.Refused fault) = what ≡ Err fault
 Answers what (received.Asked request) = what ≡ Ok request
 
--- what is received of an input: nothing only if it is empty, else what its head and what follows ask for, or the fault of a head;
--- memory ran out only after a head for which memory is taken
-abbrev pub Means : List ℕ → Received → Type 0
-Means input received.Nothing = input ≡ []
-Means input received.Failed = ⊤
-Means input received.Memory = (head : RequestHead) × (rest : List ℕ) × IsHead input head rest × TakesMemory (wanted_of head)
-Means input (received.Refused fault) = ((head : RequestHead) × (rest : List ℕ) × IsHead input head rest × (asked head rest ≡ Err fault))
+-- what is received of an input, with lists or without: nothing only if it is empty, else what its head and what follows
+-- ask for, or the fault of a head; memory ran out only after a head for which memory is taken
+abbrev pub MeansWith : Bool → List ℕ → Received → Type 0
+MeansWith has_lists input received.Nothing = input ≡ []
+MeansWith has_lists input received.Failed = ⊤
+MeansWith has_lists input received.Memory =
+    (head : RequestHead) × (rest : List ℕ) × IsHead input head rest × TakesMemory (wanted_of_with has_lists head)
+MeansWith has_lists input (received.Refused fault) =
+    ((head : RequestHead) × (rest : List ℕ) × IsHead input head rest × (asked_with has_lists head rest ≡ Err fault))
     ⊎ HasHeadFault input fault
-Means input (received.Asked request) = (head : RequestHead) × (rest : List ℕ) × IsHead input head rest × (asked head rest ≡ Ok request)
+MeansWith has_lists input (received.Asked request) =
+    (head : RequestHead) × (rest : List ℕ) × IsHead input head rest × (asked_with has_lists head rest ≡ Ok request)
+
+-- what is received of an input, without lists
+abbrev pub Means : List ℕ → Received → Type 0
+Means input received = MeansWith false input received
 
 -- what was taken of a body of so many bytes if memory ran out for it, of which some came already: nothing, though some is missing, or all of it, which is a text
 abbrev pub LacksBody : ℕ → List ℕ → List ℕ → Type 0
@@ -164,8 +198,9 @@ LacksRest (Ok (wanted.Query query)) already taken = taken ≡ []
 LacksRest (Ok (wanted.Body kind count)) already taken = LacksBody count already taken
 LacksRest (Err fault) already taken = (fault ≡ BadPath) × (taken ≡ [])
 
--- what was read of a request if memory ran out for it: its head, with what came with it, and of the rest of the request nothing, or a body that is a text
-pub record LacksMemory (old new : Option (List ℕ)) : Type 0 where
+-- what was read of a request if memory ran out for it, with lists or without: its head, with what came with it, and of
+-- the rest of the request nothing, or a body that is a text
+pub record LacksMemoryWith (has_lists : Bool) (old new : Option (List ℕ)) : Type 0 where
   pub head : RequestHead
   pub came : List ℕ
   pub already : List ℕ
@@ -173,23 +208,25 @@ pub record LacksMemory (old new : Option (List ℕ)) : Type 0 where
   pub reads : Consumes old new (came ++ taken)
   pub within : length came ≤ head_limit
   pub is : IsHead came head already
-  pub lacks : LacksRest (wanted_of head) already taken
+  pub lacks : LacksRest (wanted_of_with has_lists head) already taken
 
--- how many bytes of a body a head asks for: none unless it is a command without a fault
+-- how many bytes of a body a head asks for: none unless it is a command or a merge without a fault
 abbrev pub body_length : Result Wanted Fault → ℕ
 body_length (Ok (wanted.Query query)) = 0
 body_length (Ok (wanted.Body kind count)) = count
 body_length (Err fault) = 0
 
--- the front of a request, and not all of one: the front of a head, or a head within the limits and less than the body that it asks for
-abbrev pub IsRequestFront : List ℕ → Type 0
-IsRequestFront seen = IsHeadFront seen
-    ⊎ ((head : RequestHead) × (rest : List ℕ) × IsHead seen head rest × (length rest < body_length (wanted_of head)))
+-- the front of a request, and not all of one, with lists or without: the front of a head, or a head within the limits
+-- and less than the body that it asks for
+abbrev pub IsRequestFrontWith : Bool → List ℕ → Type 0
+IsRequestFrontWith has_lists seen = IsHeadFront seen ⊎ ((head : RequestHead) × (rest : List ℕ)
+    × IsHead seen head rest × (length rest < body_length (wanted_of_with has_lists head)))
 
--- no more bytes than a head may have, or a head within the limits and no more than the body that it asks for
-abbrev pub IsWithinRequest : List ℕ → Type 0
-IsWithinRequest seen = (length seen ≤ head_limit)
-    ⊎ ((head : RequestHead) × (rest : List ℕ) × IsHead seen head rest × (length rest ≤ body_length (wanted_of head)))
+-- no more bytes than a head may have, or a head within the limits and no more than the body that it asks for, with
+-- lists or without
+abbrev pub IsWithinRequestWith : Bool → List ℕ → Type 0
+IsWithinRequestWith has_lists seen = (length seen ≤ head_limit) ⊎ ((head : RequestHead) × (rest : List ℕ)
+    × IsHead seen head rest × (length rest ≤ body_length (wanted_of_with has_lists head)))
 
 -- whether the reader failed
 abbrev pub is_failed : Received → Bool

@@ -1,5 +1,5 @@
 -- What an office answers, in the form in which it is written: over HTTP, or as a line of a run.
-use Rattle.std.specs.Prelude.{◌≡◌, ◌⊎◌, ℕ, false, List, Result, Ok, Err}
+use Rattle.std.specs.Prelude.{◌≡◌, ◌⊎◌, ℕ, Bool, false, List, codes, Result, Ok, Err}
 use Rattle.wb_states.specs.Commands.{name_of_command}
 use Rattle.wb_states.specs.Machine.{Machine}
 use Rattle.wb_states.specs.Queries.{answer_of}
@@ -11,7 +11,9 @@ use Rattle.wb_states.specs.declared.refusal.Refusal.TheVariants.{Closed, Store, 
 use Rattle.wb_states.specs.declared.reply.Reply.{Reply}
 use Rattle.wb_states.specs.declared.store_fault.StoreFault.{StoreFault}
 use Rattle.wb_step.specs.Offices.{Standing, Shut}
-use Rattle.wb_step.specs.Step.{step}
+use Rattle.wb_step.specs.Step.{Outcome, step}
+use Rattle.wb_lists.specs.Lists.{IsMergeAs, MayRead}
+use Rattle.wb_lists.specs.declared.names.PartNames.{PartNames}
 use Rattle.wb_api.specs.Encoding.{is_plain, memory_text, refusal_text, reply_text}
 use Rattle.wb_api.specs.Queries.{query_text}
 
@@ -78,3 +80,19 @@ abbrev pub IsFoundAnswer : Form → Machine → Result Answer Refusal → Respon
 IsFoundAnswer form machine (Ok found) response =
     (response ≡ found_response form machine (Ok found)) ⊎ (response ≡ memory_response form machine)
 IsFoundAnswer form machine (Err refusal) response = IsRefusal form machine refusal response
+
+-- what may be answered to a merge once the lists of these names were opened: what the merge of what they may be read as
+-- comes to
+abbrev pub IsMergeResponse : Form → MayRead → List ℕ → List PartNames → Machine → Response → Type 0
+IsMergeResponse form may_read sources names machine response =
+    (outcome : Outcome) × IsMergeAs may_read sources names machine outcome
+    × (response ≡ reply_response form (codes "merge") outcome.0 outcome.1)
+
+-- what may be told of what an office answered to a merge: that there is no memory is told only for the text of a reply
+-- that was not counted, or of a refusal with
+-- more than a number and a name
+abbrev pub TellsMerge : Form → Bool → Result Reply Refusal → Machine → Response → Type 0
+TellsMerge form is_counted (Ok reply) after response =
+    (response ≡ reply_response form (codes "merge") (Ok reply) after)
+    ⊎ ((is_counted ≡ false) × (response ≡ memory_response form after))
+TellsMerge form is_counted (Err refusal) after response = IsRefusal form after refusal response

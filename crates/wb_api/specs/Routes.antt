@@ -39,6 +39,10 @@ command_path front kind = record { front = front; parts = 0; route = route.Comma
 abbrev pub query_path : List ℕ → ℕ → QueryKind → Path
 query_path front parts kind = record { front = front; parts = parts; route = route.Query kind }
 
+-- the path of a merge, after which nothing follows
+abbrev pub merge_path : List ℕ → Path
+merge_path front = record { front = front; parts = 0; route = route.Merge }
+
 -- the paths that are served
 abbrev pub paths : List Path
 paths = command_path (codes "/v1/add-arch") AddArch
@@ -54,6 +58,7 @@ paths = command_path (codes "/v1/add-arch") AddArch
     ∷ command_path (codes "/v1/fail") Fail
     ∷ command_path (codes "/v1/give-back") GiveBack
     ∷ query_path (codes "/v1/item/") 2 query_kind.Item
+    ∷ merge_path (codes "/v1/merge")
     ∷ query_path (codes "/v1/mine/") 1 query_kind.Mine
     ∷ command_path (codes "/v1/next") Next
     ∷ command_path (codes "/v1/not-for-us") NotForUs
@@ -107,7 +112,7 @@ abbrev pub route_among : List Path → List ℕ → Option Route
 route_among [] target = None
 route_among (path ∷ rest) target = if has_path path target then Some path.route else route_among rest target
 
--- what a target is for: a command or a query
+-- what a target is for: a command, a merge or a query
 unfoldable pub route_at : List ℕ → Option Route
 route_at target = route_among paths target
 
@@ -157,6 +162,7 @@ table =
     ∷ (codes "/v1/rebuild", route.Command Rebuild)
     ∷ (codes "/v1/build-priority", route.Command BuildPriority)
     ∷ (codes "/v1/report", route.Command Report)
+    ∷ (codes "/v1/merge", route.Merge)
     ∷ (codes "/v1/queue/{arch}", route.Query query_kind.Queue)
     ∷ (codes "/v1/state/{arch}/{state}", route.Query query_kind.ByState)
     ∷ (codes "/v1/item/{arch}/{source}", route.Query query_kind.Item)

@@ -6,8 +6,8 @@ use Rattle.wb_step.specs.Offices.{Standing, Open}
 use Rattle.wb_step.specs.Step.{step}
 use Rattle.wb_api.specs.declared.request.Received.{Received}
 use Rattle.wb_api.specs.declared.request.Received.TheVariants as received
-use Rattle.wb_api.specs.declared.request.Request.TheVariants as request
-use Rattle.wb_api.specs.Exchange.{Exchanges, TellsOk}
+use Rattle.wb_lists.specs.Lists.{MayRead}
+use Rattle.wb_api.specs.Exchange.{AsksFor, ExchangesWith, TellsOk}
 use Rattle.wb_api.specs.declared.serve.Served.{Served}
 
 -- one exchange of a run: what was received, and how the exchange ended
@@ -15,23 +15,30 @@ pub record Exchange : Type 0 where
   pub received : Received
   pub ended : Served
 
--- exchanges one after another take the office from one state to another, and it stands so after the last; before each it stands open
-abbrev pub Serves : List Exchange → Machine → Machine → Standing → Type 0
-Serves [] before after standing = (after ≡ before) × (standing ≡ Open)
-Serves (one ∷ others) before after standing =
+-- exchanges one after another take the office from one state to another, by what lists may be read as, and it stands so
+-- after the last; before each it stands open
+abbrev pub Serves : MayRead → List Exchange → Machine → Machine → Standing → Type 0
+Serves may_read [] before after standing = (after ≡ before) × (standing ≡ Open)
+Serves may_read (one ∷ others) before after standing =
     (between : Machine) × (stands : Standing) × (old new : Option (List ℕ))
-    × Exchanges one.received before between stands old new one.ended
-    × (((others ≡ []) × (after ≡ between) × (standing ≡ stands)) ⊎ ((stands ≡ Open) × Serves others between after standing))
+    × ExchangesWith may_read one.received before between stands old new one.ended
+    × (((others ≡ []) × (after ≡ between) × (standing ≡ stands))
+    ⊎ ((stands ≡ Open) × Serves may_read others between after standing))
+
+-- what was received asks for this command: it is the command, or the merge that the lists which it names may be read as
+abbrev pub IsAskedFor : MayRead → Received → Command → Type 0
+IsAskedFor may_read (received.Asked asked) command = AsksFor may_read asked command
+IsAskedFor may_read came command = ⊥
 
 -- a command was answered with status 200, or with a front of such an answer
-abbrev pub IsAcknowledged : Exchange → Command → Type 0
-IsAcknowledged one command = (one.received ≡ received.Asked (request.Command command)) × TellsOk one.ended
+abbrev pub IsAcknowledged : MayRead → Exchange → Command → Type 0
+IsAcknowledged may_read one command = IsAskedFor may_read one.received command × TellsOk one.ended
 
 -- the commands that exchanges from this state had the office accept, in their order; none that was acknowledged is missing
-abbrev pub AreAccepted : Machine → List Exchange → List Command → Type 0
-AreAccepted machine [] commands = commands ≡ []
-AreAccepted machine (one ∷ others) commands =
-    (((command : Command) → ¬ (IsAcknowledged one command)) × AreAccepted machine others commands)
+abbrev pub AreAccepted : MayRead → Machine → List Exchange → List Command → Type 0
+AreAccepted may_read machine [] commands = commands ≡ []
+AreAccepted may_read machine (one ∷ others) commands =
+    (((command : Command) → ¬ (IsAcknowledged may_read one command)) × AreAccepted may_read machine others commands)
     ⊎ ((command : Command) × (later : List Command) × (commands ≡ command ∷ later)
-    × (one.received ≡ received.Asked (request.Command command)) × IsOk (step machine command).0
-    × AreAccepted (step machine command).1 others later)
+    × IsAskedFor may_read one.received command × IsOk (step machine command).0
+    × AreAccepted may_read (step machine command).1 others later)

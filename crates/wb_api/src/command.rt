@@ -29,7 +29,7 @@ struct NamedSource<'a> {
 }
 
 /// The text under a key, as it stands in the body; `None` if there is no text. Takes no memory.
-fn text_in<'a>(key: &str, body: &'a Value) -> Option<&'a str>
+pub(crate) fn text_in<'a>(key: &str, body: &'a Value) -> Option<&'a str>
     ensures value { option_map (λ text. text.now) result ≡ text_in key.now (view body.now) }
 {
     match body.get(key) {
@@ -400,7 +400,7 @@ fn command_from(alloc: Global, kind: CommandKind, body: &Value) -> Result<Comman
 
 /// The value that bytes write in JSON; `None` if they write none. The only error is that memory ran out, for bytes that
 /// are UTF-8.
-fn json_of(alloc: Global, bytes: &[u8]) -> Result<Option<Value>, AllocError>
+pub(crate) fn json_of(alloc: Global, bytes: &[u8]) -> Result<Option<Value>, AllocError>
     ensures value { IfOk result (λ value. option_map view value ≡ json_of bytes.now) }
     ensures text { IfOk result (λ value. IfSome value (λ _. IsText bytes.now)) }
     ensures memory { OnErr result (IsText bytes.now) }

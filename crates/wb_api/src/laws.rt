@@ -1,5 +1,6 @@
 //! Laws of the definitions, each on a function with nothing to run.
-ghost use Rattle.std.specs.Prelude.{ℕ, ◌<◌, List, [], ◌∷◌, get_or, ◌≡◌, ◌++◌, pos, neg_ℤ, codes, is_some, map, true, None, Some, Ok, Err};
+ghost use Rattle.std.specs.Prelude.{ℕ, ◌<◌, List, [], ◌∷◌, get_or, ◌≡◌, ◌++◌, pos, neg_ℤ, Bool};
+ghost use Rattle.std.specs.Prelude.{codes, is_some, map, replicate, true, None, Some, Ok, Err};
 ghost use Rattle.deb_text.specs.Lines.{IsOneLine};
 ghost use Rattle.wb_states.specs.declared.refusal.Refusal.{Refusal as AnyRefusal};
 ghost use Rattle.wb_states.specs.declared.reply.Reply.{Reply as AnyReply};
@@ -14,8 +15,10 @@ ghost use Rattle.serde_json.specs.Data.{Data};
 ghost use Rattle.wb_api.specs.Commands.{command_in, value_in};
 ghost use Rattle.wb_api.specs.Keys.{has_keys, keys_of};
 ghost use Rattle.wb_api.specs.declared.route.CommandKind.{CommandKind as AnyKind};
-ghost use Rattle.wb_api.specs.Requests.{Answers, asked, got, IsHead, Means, posted, TakesMemory};
-ghost use Rattle.wb_api.specs.Requests.{field, got_with, posted_with, wanted_of};
+ghost use Rattle.wb_api.specs.Merges.{merge, merge_body, part};
+ghost use Rattle.wb_api.specs.Requests.{Answers, asked_with, field, got, got_with, head_of, IsHead};
+ghost use Rattle.wb_api.specs.Requests.{MeansWith, posted, posted_beside_lists, posted_with};
+ghost use Rattle.wb_api.specs.Requests.{TakesMemory, wanted_of_with};
 ghost use Rattle.wb_streams.specs.Fields.{is_from_browser};
 ghost use Rattle.wb_streams.specs.declared.fault.Fault.TheVariants.{BadBody, BadHead, BadPath, BodyCut, FromBrowser, NoRoute};
 ghost use Rattle.wb_streams.specs.declared.fault.Fault.TheVariants.{WrongMethod};
@@ -23,7 +26,7 @@ ghost use Rattle.wb_streams.specs.declared.fault.Fault.{Fault as AnyFault};
 ghost use Rattle.wb_api.specs.declared.request.Received.{Received as AnyReceived};
 ghost use Rattle.wb_api.specs.declared.request.Received.TheVariants.{Asked, Memory, Refused};
 ghost use Rattle.wb_api.specs.declared.request.Request.{Request as AnyRequest};
-ghost use Rattle.wb_api.specs.declared.request.Request.TheVariants.{Command, Query};
+ghost use Rattle.wb_api.specs.declared.request.Request.TheVariants.{Command, Merge, Query};
 ghost use Rattle.wb_states.specs.declared.query.Query.TheVariants as query;
 ghost use Rattle.wb_states.specs.Machine.{Machine};
 ghost use Rattle.wb_states.specs.declared.command.Command.{Command as AnyCommand};
@@ -32,6 +35,7 @@ ghost use Rattle.wb_step.specs.Replay.{replay};
 ghost use Rattle.wb_api.specs.Routes.{route_at, routed};
 ghost use Rattle.wb_api.specs.Runs.{AreAccepted, Exchange, Serves};
 
+use wb_lists::Lists;
 use wb_step::CarryOut;
 
 /// No line feed stands in an answer, whatever texts it carries: an answer is one line (RFC 8259, section 7).
@@ -45,22 +49,25 @@ pub fn answers_are_one_line()
 
 /// An input that begins with a head within the limits is received as what this head and the bytes after it
 /// ask for, or as their first fault, and in no other way unless a read failed or memory ran out (RFC 9112,
-/// section 2.1).
+/// section 2.1). This holds where lists are served, and where none are.
 pub fn a_head_decides()
-    ensures value { (input : List ℕ) (head : RequestHead) (rest : List ℕ) (received : AnyReceived)
-        → IsHead input head rest → Means input received → Answers (asked head rest) received }
+    ensures value { (lists : Bool) (input : List ℕ) (head : RequestHead) (rest : List ℕ)
+        (received : AnyReceived) → IsHead input head rest → MeansWith lists input received
+        → Answers (asked_with lists head rest) received }
     // memory runs out only if what the head asks for takes some
-    ensures memory { (input : List ℕ) (head : RequestHead) (rest : List ℕ)
-        → IsHead input head rest → Means input Memory → TakesMemory (wanted_of head) }
+    ensures memory { (lists : Bool) (input : List ℕ) (head : RequestHead) (rest : List ℕ)
+        → IsHead input head rest → MeansWith lists input Memory
+        → TakesMemory (wanted_of_with lists head) }
 {}
 
 /// What follows a request plays no part: a request is the same request with any bytes after it, and so is the fault of
 /// one, unless it is that the input ended within the head or the body (RFC 9112, section 6.3).
 pub fn what_follows_plays_no_part()
-    ensures asked { (input more : List ℕ) (request : AnyRequest)
-        → Means input (Asked request) → Means (input ++ more) (Asked request) }
-    ensures refused { (input more : List ℕ) (fault : AnyFault) → ¬ (fault ≡ BodyCut) → ¬ (fault ≡ BadHead)
-        → Means input (Refused fault) → Means (input ++ more) (Refused fault) }
+    ensures asked { (lists : Bool) (input more : List ℕ) (request : AnyRequest)
+        → MeansWith lists input (Asked request) → MeansWith lists (input ++ more) (Asked request) }
+    ensures refused { (lists : Bool) (input more : List ℕ) (fault : AnyFault)
+        → ¬ (fault ≡ BodyCut) → ¬ (fault ≡ BadHead)
+        → MeansWith lists input (Refused fault) → MeansWith lists (input ++ more) (Refused fault) }
 {}
 
 /// The router finds for each target what the target is for: a path alone, or a path and as many parts as it has, with slashes
@@ -143,6 +150,66 @@ pub fn posts_are_commands()
     ensures no_text { posted (codes "/v1/report") (codes "{\"arch\":\"amd64\"}") ≡ Err BadBody }
 {}
 
+/// A POST of the path of a merge, where lists are served, is the merge that its body names: one
+/// part or more, in their order, each with an architecture and the name of its Packages list, and
+/// the name of the Sources list. A name that is empty or longer than 255 bytes, has a slash, or
+/// begins with a dot is no name of a list. Where no lists are served there is no such path.
+pub fn merges_name_lists()
+    // one part, and two in their order; further keys are ignored
+    ensures one { posted_beside_lists (codes "/v1/merge")
+        (codes "{\"parts\":[{\"arch\":\"amd64\",\"packages\":\"Packages-amd64\"}],"
+        ++ codes "\"sources\":\"Sources\"}")
+        ≡ Ok (Merge (merge (part (codes "amd64") (codes "Packages-amd64") ∷ [])
+        (codes "Sources"))) }
+    ensures two { posted_beside_lists (codes "/v1/merge")
+        (codes "{\"parts\":[{\"arch\":\"i386\",\"packages\":\"p2\"},"
+        ++ codes "{\"arch\":\"amd64\",\"packages\":\"p1\"}],\"sources\":\"s\"}")
+        ≡ Ok (Merge (merge (part (codes "i386") (codes "p2")
+        ∷ part (codes "amd64") (codes "p1") ∷ []) (codes "s"))) }
+    ensures further { posted_beside_lists (codes "/v1/merge")
+        (codes "{\"at\":1,\"parts\":[{\"arch\":\"amd64\",\"at\":2,\"packages\":\"p\"}],"
+        ++ codes "\"sources\":\"s\"}")
+        ≡ Ok (Merge (merge (part (codes "amd64") (codes "p") ∷ []) (codes "s"))) }
+    // no part, or something else in place of the parts
+    ensures no_part { posted_beside_lists (codes "/v1/merge")
+        (codes "{\"parts\":[],\"sources\":\"s\"}") ≡ Err BadBody }
+    ensures no_parts { posted_beside_lists (codes "/v1/merge")
+        (codes "{\"sources\":\"s\"}") ≡ Err BadBody }
+    ensures no_array { posted_beside_lists (codes "/v1/merge")
+        (codes "{\"parts\":{\"arch\":\"amd64\",\"packages\":\"p\"},\"sources\":\"s\"}")
+        ≡ Err BadBody }
+    ensures no_arch { posted_beside_lists (codes "/v1/merge")
+        (codes "{\"parts\":[{\"packages\":\"p\"}],\"sources\":\"s\"}") ≡ Err BadBody }
+    ensures no_sources { posted_beside_lists (codes "/v1/merge")
+        (codes "{\"parts\":[{\"arch\":\"amd64\",\"packages\":\"p\"}]}") ≡ Err BadBody }
+    // names of lists
+    ensures longest { posted_beside_lists (codes "/v1/merge")
+        (merge_body (codes "p") (replicate 255 115))
+        ≡ Ok (Merge (merge (part (codes "amd64") (codes "p") ∷ []) (replicate 255 115))) }
+    ensures long { posted_beside_lists (codes "/v1/merge")
+        (merge_body (codes "p") (replicate 256 115)) ≡ Err BadBody }
+    ensures empty { posted_beside_lists (codes "/v1/merge")
+        (merge_body (codes "p") (codes "")) ≡ Err BadBody }
+    ensures slash { posted_beside_lists (codes "/v1/merge")
+        (merge_body (codes "p") (codes "lists/s")) ≡ Err BadBody }
+    ensures slash_of_part { posted_beside_lists (codes "/v1/merge")
+        (merge_body (codes "p/") (codes "s")) ≡ Err BadBody }
+    ensures dot { posted_beside_lists (codes "/v1/merge")
+        (merge_body (codes "p") (codes "..")) ≡ Err BadBody }
+    ensures dot_of_part { posted_beside_lists (codes "/v1/merge")
+        (merge_body (codes ".p") (codes "s")) ≡ Err BadBody }
+    ensures inner_dot { posted_beside_lists (codes "/v1/merge")
+        (merge_body (codes "p.") (codes "s"))
+        ≡ Ok (Merge (merge (part (codes "amd64") (codes "p.") ∷ []) (codes "s"))) }
+    // other requests
+    ensures get_of_merge { asked_with true (head_of (codes "GET") (codes "/v1/merge") []) []
+        ≡ Err WrongMethod }
+    ensures other_path { posted_beside_lists (codes "/v1/merge/s")
+        (merge_body (codes "p") (codes "s")) ≡ Err NoRoute }
+    ensures without_lists { posted (codes "/v1/merge")
+        (merge_body (codes "p") (codes "s")) ≡ Err NoRoute }
+{}
+
 /// A body gives a command exactly if it has each key of the table for its path, with what that has to have.
 pub fn commands_are_read_by_their_keys()
     ensures value { (kind : AnyKind) (body : Data) → is_some (command_in kind body) ≡ has_keys (keys_of kind) body }
@@ -152,8 +219,9 @@ pub fn commands_are_read_by_their_keys()
 /// with an `Origin` field (RFC 6454, section 7), or with a `Sec-Fetch-Site` field of another value than `none` (Fetch
 /// Metadata Request Headers, section 2.3). Names of fields compare without case, the value does not.
 pub fn pages_ask_for_nothing()
-    ensures value { (head : RequestHead) (rest : List ℕ)
-        → is_from_browser (map name_and_value head.fields) ≡ true → asked head rest ≡ Err FromBrowser }
+    ensures value { (lists : Bool) (head : RequestHead) (rest : List ℕ)
+        → is_from_browser (map name_and_value head.fields) ≡ true
+        → asked_with lists head rest ≡ Err FromBrowser }
     // a form of a page, and what a page fetches; a fault of the target comes later
     ensures form { posted_with (field (codes "Origin") (codes "null") ∷ []) (codes "/v1/built")
         (codes "{\"take\":1}") ≡ Err FromBrowser }
@@ -190,9 +258,11 @@ pub fn values_are_integers()
 {}
 
 /// A run of exchanges leaves what the commands that it accepted leave one after another, and each command that was
-/// answered with status 200, or with a front of such an answer, is among them.
-pub fn runs_leave_what_was_accepted<O: CarryOut>()
-    ensures replay { (exchanges : List Exchange) (before after : Machine) (standing : Standing)
-        → Serves exchanges before after standing
-        → (commands : List AnyCommand) × AreAccepted before exchanges commands × (after ≡ replay before commands) }
+/// answered with status 200, or with a front of such an answer, is among them. A merge is that of what its lists may be
+/// read as.
+pub fn runs_leave_what_was_accepted<O: CarryOut, L: Lists>()
+    ensures replay { (lists : L) (exchanges : List Exchange) (before after : Machine) (standing : Standing)
+        → Serves (L.may_read lists) exchanges before after standing
+        → (commands : List AnyCommand) × AreAccepted (L.may_read lists) before exchanges commands
+        × (after ≡ replay before commands) }
 {}

@@ -1,5 +1,5 @@
 //! A request (RFC 9112, section 2.1), read from a stream.
-ghost use Rattle.std.specs.Prelude.{◌≡◌, ℕ, ◌≤◌, List, ◌++◌, drop, false, length, IfSome, map};
+ghost use Rattle.std.specs.Prelude.{◌≡◌, ℕ, ◌≤◌, List, ◌++◌, drop, Err, false, length, IfSome, map};
 ghost use Rattle.std.specs.Io.KnownBytes.{Consumes};
 ghost use Rattle.httparse.specs.Borrowed.{header_parts};
 ghost use Rattle.httparse.specs.Grammar.{RequestHead};
@@ -7,19 +7,25 @@ ghost use Rattle.wb_streams.specs.Streams.{Flags};
 ghost use Rattle.wb_streams.specs.Bodies.{TookLess, TookNoMore};
 ghost use Rattle.wb_streams.specs.Heads.{IsHeadAt};
 ghost use Rattle.wb_api.specs.Commands.{IsText};
-ghost use Rattle.wb_api.specs.Requests.{Answers, asked, asked_in, body_asked, body_length, command_wanted};
-ghost use Rattle.wb_api.specs.Requests.{is_failed, IsRequestFront, IsWithinRequest, LacksBody, LacksMemory, LacksRest, Means};
-ghost use Rattle.wb_api.specs.Requests.{query_wanted, TakesMemory, wanted_by, wanted_from, wanted_of, WantsOr};
+ghost use Rattle.wb_api.specs.Requests.{Answers, asked_in, asked_with, body_asked, body_length};
+ghost use Rattle.wb_api.specs.Requests.{body_wanted, is_failed, IsRequestFrontWith};
+ghost use Rattle.wb_api.specs.Requests.{IsWithinRequestWith, LacksBody, LacksMemoryWith, LacksRest};
+ghost use Rattle.wb_api.specs.Requests.{MeansWith, query_wanted, TakesMemory, wanted_by_with};
+ghost use Rattle.wb_api.specs.Requests.{wanted_from_with, wanted_of_with, WantsOr};
+ghost use Rattle.wb_api.specs.Outcomes.{GivesOr};
+ghost use Rattle.wb_api.specs.declared.failure.RequestError.TheVariants.{Memory};
 ghost use Rattle.wb_api.specs.declared.request.Received.TheVariants as received;
 ghost use Rattle.wb_api.specs.Routes.{route_at};
 
 use crate::command::command_of;
 use crate::failure::RequestError;
-use crate::route::{CommandKind, QueryKind, Route, Routes, query_of};
+use crate::merge::merge_of;
+use crate::route::{BodyKind, QueryKind, Route, Routes, query_of};
 use http::Method;
 use httparse::{EMPTY_HEADER, Header, Status};
 use std::alloc::Global;
 use std::io::Read;
+use wb_lists::MergeNames;
 use wb_states::{Command, Query};
 use wb_streams::{
     BodyRead, FIELD_LIMIT, Fault, HEAD_LIMIT, HeadRead, WatchedReader, content_length, has_field,
@@ -34,14 +40,16 @@ pub enum Request {
     Command(Command),
     /// A query, which changes nothing.
     Query(Query),
+    /// A merge of lists that are opened by their names.
+    Merge(MergeNames),
 }
 
 /// What a head asks for.
 #[derive(Drop)]
 pub(crate) enum Wanted {
     Query(Query),
-    /// A command, which a body of `length` bytes gives.
-    Body { kind: CommandKind, length: usize },
+    /// A command or a merge, which a body of `length` bytes gives.
+    Body { kind: BodyKind, length: usize },
 }
 
 /// What was read of a request.
@@ -60,10 +68,11 @@ pub enum Received {
     Asked(Request),
 }
 
-/// What the head of a command asks for. The errors are those of its method, its fields and its length.
-#[tactic(auto, unfolding(crate::specs::Requests::command_wanted))]
-fn command_wanted(kind: CommandKind, method: &str, fields: &[Header<'_>]) -> Result<Wanted, Fault>
-    ensures value { result ≡ command_wanted kind method.now (map header_parts fields.now) }
+/// What the head of a command or a merge asks for. The errors are those of its method, its fields
+/// and its length.
+#[tactic(auto, unfolding(crate::specs::Requests::body_wanted))]
+fn body_wanted(kind: BodyKind, method: &str, fields: &[Header<'_>]) -> Result<Wanted, Fault>
+    ensures value { result ≡ body_wanted kind method.now (map header_parts fields.now) }
 {
     // Compared as texts: `Method::from_bytes` takes memory for an unknown method of more than 15
     // bytes, so a request with a wrong method could be answered as out of memory.
@@ -99,25 +108,38 @@ fn query_wanted(
     }
 }
 
+/// What a head asks for that takes no memory.
+fn wanted_or_fault(wanted: Result<Wanted, Fault>) -> Result<Wanted, RequestError>
+    ensures value { WantsOr result wanted }
+{
+    match wanted {
+        Ok(wanted) => Ok(wanted),
+        Err(fault) => Err(RequestError::Fault(fault)),
+    }
+}
+
 /// What a head of this method, target and fields asks for. The errors are that nothing has the target, those of the
-/// command or the query that has it, and that memory ran out.
+/// command, the merge or the query that has it, and that memory ran out.
 fn wanted_by(
     alloc: Global,
     routes: &Routes,
+    has_lists: bool,
     method: &str,
     target: &str,
     fields: &[Header<'_>],
 ) -> Result<Wanted, RequestError>
-    ensures value { WantsOr result
-        (wanted_by (route_at target.now) method.now target.now (map header_parts fields.now)) }
+    ensures value { WantsOr result (wanted_by_with
+        has_lists (route_at target.now) method.now target.now (map header_parts fields.now)) }
 {
     match routes.at(target) {
-        Some(Route::Command(kind)) => match command_wanted(kind, method, fields) {
-            Ok(wanted) => Ok(wanted),
-            Err(fault) => Err(RequestError::Fault(fault)),
-        },
+        Some(Route::Command(kind)) => {
+            wanted_or_fault(body_wanted(BodyKind::Command(kind), method, fields))
+        }
         Some(Route::Query(kind)) => query_wanted(alloc, kind, method, target),
-        None => Err(RequestError::Fault(Fault::NoRoute)),
+        Some(Route::Merge) if has_lists => {
+            wanted_or_fault(body_wanted(BodyKind::Merge, method, fields))
+        }
+        Some(Route::Merge) | None => Err(RequestError::Fault(Fault::NoRoute)),
     }
 }
 
@@ -126,27 +148,29 @@ fn wanted_by(
 fn wanted_from(
     alloc: Global,
     routes: &Routes,
+    has_lists: bool,
     method: &str,
     target: &str,
     fields: &[Header<'_>],
 ) -> Result<Wanted, RequestError>
     ensures value { WantsOr result
-        (wanted_from method.now target.now (map header_parts fields.now)) }
+        (wanted_from_with has_lists method.now target.now (map header_parts fields.now)) }
 {
     if is_from_browser(fields) {
         return Err(RequestError::Fault(Fault::FromBrowser));
     }
-    wanted_by(alloc, routes, method, target, fields)
+    wanted_by(alloc, routes, has_lists, method, target, fields)
 }
 
 /// What the head at the front of the bytes asks for.
 pub(crate) fn wanted_of(
     alloc: Global,
     routes: &Routes,
+    has_lists: bool,
     bytes: &[u8],
 ) -> Result<Wanted, RequestError>
     ensures value { (count : ℕ) (head : RequestHead) → IsHeadAt bytes.now count head
-        → WantsOr result (wanted_of head) }
+        → WantsOr result (wanted_of_with has_lists head) }
 {
     let mut fields = [EMPTY_HEADER; FIELD_LIMIT];
     let mut request = httparse::Request::new(&mut fields);
@@ -154,31 +178,51 @@ pub(crate) fn wanted_of(
         return Err(RequestError::Fault(Fault::BadHead));
     };
     match (request.method, request.path) {
-        (Some(method), Some(target)) => wanted_from(alloc, routes, method, target, request.headers),
+        (Some(method), Some(target)) => {
+            wanted_from(alloc, routes, has_lists, method, target, request.headers)
+        }
         _ => Err(RequestError::Fault(Fault::BadHead)),
     }
 }
 
+/// What the bytes of a body ask for. The errors are that they ask for nothing, and, for bytes that
+/// are UTF-8, that memory ran out.
+fn request_in(alloc: Global, kind: BodyKind, bytes: &[u8]) -> Result<Request, RequestError>
+    ensures value { GivesOr result (asked_in kind bytes.now) }
+    ensures memory { result ≡ Err Memory → IsText bytes.now }
+{
+    match kind {
+        BodyKind::Command(command) => match command_of(alloc, command, bytes) {
+            Ok(command) => Ok(Request::Command(command)),
+            Err(error) => Err(error),
+        },
+        BodyKind::Merge => match merge_of(alloc, bytes) {
+            Ok(names) => Ok(Request::Merge(names)),
+            Err(error) => Err(error),
+        },
+    }
+}
+
 /// What the bytes of a body give.
-fn receive_command(alloc: Global, kind: CommandKind, bytes: &[u8]) -> Received
+fn receive_asked(alloc: Global, kind: BodyKind, bytes: &[u8]) -> Received
     ensures value { Answers (asked_in kind bytes.now) result }
     ensures memory { result ≡ received.Memory → IsText bytes.now }
     ensures failed { is_failed result ≡ false }
 {
-    match command_of(alloc, kind, bytes) {
-        Ok(command) => Received::Asked(Request::Command(command)),
+    match request_in(alloc, kind, bytes) {
+        Ok(request) => Received::Asked(request),
         Err(RequestError::Fault(fault)) => Received::Refused(fault),
         Err(RequestError::Memory) => Received::Memory,
     }
 }
 
-/// Reads the body of a command, of which a front may have come already, and what follows it. A body that came whole is read
-/// where it stands, without memory for it.
+/// Reads the body of a command or a merge, of which a front may have come already, and what follows
+/// it. A body that came whole is read where it stands, without memory for it.
 fn receive_body<R: Read + Drop>(
     alloc: Global,
     reader: &mut WatchedReader<R>,
     already: &[u8],
-    kind: CommandKind,
+    kind: BodyKind,
     length: usize,
 ) -> Received
     ensures value { IfSome reader.old.bytes
@@ -191,10 +235,10 @@ fn receive_body<R: Read + Drop>(
         × Consumes reader.old.bytes reader.new.bytes taken × LacksBody length already.now taken }
 {
     if length <= already.len() {
-        return receive_command(alloc, kind, &already[..length]);
+        return receive_asked(alloc, kind, &already[..length]);
     }
     match read_body(alloc, reader, already, length) {
-        BodyRead::Whole(body) => receive_command(alloc, kind, body.as_slice()),
+        BodyRead::Whole(body) => receive_asked(alloc, kind, body.as_slice()),
         BodyRead::Cut => Received::Refused(Fault::BodyCut),
         BodyRead::Failed => Received::Failed,
         BodyRead::Memory => Received::Memory,
@@ -205,27 +249,28 @@ fn receive_body<R: Read + Drop>(
 fn receive_rest<R: Read + Drop>(
     alloc: Global,
     routes: &Routes,
+    has_lists: bool,
     reader: &mut WatchedReader<R>,
     already: &[u8],
     count: usize,
 ) -> Received
     requires { count ≤ length already.now }
     ensures value { IfSome reader.old.bytes (λ left. (head : RequestHead) → IsHeadAt already.now count head
-        → Answers (asked head (drop count already.now ++ left)) result) }
+        → Answers (asked_with has_lists head (drop count already.now ++ left)) result) }
     ensures memory { result ≡ received.Memory → (head : RequestHead) → IsHeadAt already.now count head
-        → TakesMemory (wanted_of head) }
+        → TakesMemory (wanted_of_with has_lists head) }
     ensures failed { Flags (is_failed result) reader.old reader.new }
     ensures front { result ≡ received.Failed → (head : RequestHead)
         → IsHeadAt already.now count head → TookLess (drop count already.now)
-        (body_length (wanted_of head)) reader.old.bytes reader.new.bytes }
+        (body_length (wanted_of_with has_lists head)) reader.old.bytes reader.new.bytes }
     ensures bound { (head : RequestHead) → IsHeadAt already.now count head
-        → TookNoMore (drop count already.now) (body_length (wanted_of head))
+        → TookNoMore (drop count already.now) (body_length (wanted_of_with has_lists head))
         reader.old.bytes reader.new.bytes }
     ensures lacks { result ≡ received.Memory → (head : RequestHead) → IsHeadAt already.now count head
         → (taken : List ℕ) × Consumes reader.old.bytes reader.new.bytes taken
-        × LacksRest (wanted_of head) (drop count already.now) taken }
+        × LacksRest (wanted_of_with has_lists head) (drop count already.now) taken }
 {
-    match wanted_of(alloc, routes, already) {
+    match wanted_of(alloc, routes, has_lists, already) {
         Ok(Wanted::Query(query)) => Received::Asked(Request::Query(query)),
         Ok(Wanted::Body { kind, length }) => {
             receive_body(alloc, reader, &already[count..], kind, length)
@@ -235,30 +280,34 @@ fn receive_rest<R: Read + Drop>(
     }
 }
 
-/// Reads one request: a head of at most 8192 bytes and 32 fields, and for a command a body of at most
-/// 16777216 bytes. A request that a web page had its browser send is refused by its head. No byte after the request plays a part, and neither does how the bytes are cut into
-/// reads. A read that fails, also one that is interrupted, ends it, and so does the end of the input. The
-/// memory for a body is taken before the first read of it, and a body that came with the head takes none. There is no read once the
-/// request has come, or a fault of it, since the client waits for its answer then. The reads of a head take at most 8192 bytes, which
-/// may include bytes after the request; those of a body take none after it.
+/// Reads one request: a head of at most 8192 bytes and 32 fields, and for a command or a merge a
+/// body of at most 16777216 bytes. Without lists there is no path of a merge. A request that a web
+/// page had its browser send is refused by its head. No byte after the request plays a part, and
+/// neither does how the bytes are cut into reads. A read that fails, also one that is interrupted,
+/// ends it, and so does the end of the input. The memory for a body is taken before the first read
+/// of it, and a body that came with the head takes none. There is no read once the request has
+/// come, or a fault of it, since the client waits for its answer then. The reads of a head take at
+/// most 8192 bytes, which may include bytes after the request; those of a body take none after it.
 /// Source: RFC 9112; the limits, the paths and the keys are this project's own.
 pub fn read_request<R: Read + Drop>(
     alloc: Global,
     routes: &Routes,
+    has_lists: bool,
     reader: &mut WatchedReader<R>,
 ) -> Received
-    ensures value { IfSome reader.old.bytes (λ input. Means input result) }
+    ensures value { IfSome reader.old.bytes (λ input. MeansWith has_lists input result) }
     ensures failed { Flags (is_failed result) reader.old reader.new }
     ensures front { result ≡ received.Failed → (seen : List ℕ)
-        × Consumes reader.old.bytes reader.new.bytes seen × IsRequestFront seen }
+        × Consumes reader.old.bytes reader.new.bytes seen × IsRequestFrontWith has_lists seen }
     ensures bound { (seen : List ℕ)
-        × Consumes reader.old.bytes reader.new.bytes seen × IsWithinRequest seen }
-    ensures memory { result ≡ received.Memory → LacksMemory reader.old.bytes reader.new.bytes }
+        × Consumes reader.old.bytes reader.new.bytes seen × IsWithinRequestWith has_lists seen }
+    ensures memory { result ≡ received.Memory
+        → LacksMemoryWith has_lists reader.old.bytes reader.new.bytes }
 {
     let mut room = [0u8; HEAD_LIMIT];
     match read_head(reader, &mut room) {
         HeadRead::Whole { count, filled } => {
-            receive_rest(alloc, routes, reader, &room[..filled], count)
+            receive_rest(alloc, routes, has_lists, reader, &room[..filled], count)
         }
         HeadRead::Nothing => Received::Nothing,
         HeadRead::Malformed => Received::Refused(Fault::BadHead),

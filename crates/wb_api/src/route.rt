@@ -49,15 +49,25 @@ pub(crate) enum QueryKind {
     Builders,
 }
 
+/// What the body of a request gives.
+#[derive(Clone, Copy, Debug, PartialEq, Eq)]
+pub(crate) enum BodyKind {
+    Command(CommandKind),
+    /// The names of the lists of a merge.
+    Merge,
+}
+
 /// What a target is for.
 #[derive(Clone, Copy, Debug, PartialEq, Eq)]
 pub(crate) enum Route {
     Command(CommandKind),
     Query(QueryKind),
+    /// A merge, which is served only with lists.
+    Merge,
 }
 
 /// The paths, as `matchit` reads them, and what each is for.
-static TABLE: [(&str, Route); 26] = [
+static TABLE: [(&str, Route); 27] = [
     ("/v1/add-arch", Route::Command(CommandKind::AddArch)),
     ("/v1/add-builder", Route::Command(CommandKind::AddBuilder)),
     ("/v1/enter", Route::Command(CommandKind::Enter)),
@@ -78,6 +88,7 @@ static TABLE: [(&str, Route); 26] = [
         Route::Command(CommandKind::BuildPriority),
     ),
     ("/v1/report", Route::Command(CommandKind::Report)),
+    ("/v1/merge", Route::Merge),
     ("/v1/queue/{arch}", Route::Query(QueryKind::Queue)),
     ("/v1/state/{arch}/{state}", Route::Query(QueryKind::ByState)),
     ("/v1/item/{arch}/{source}", Route::Query(QueryKind::Item)),

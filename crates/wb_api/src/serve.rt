@@ -1,5 +1,5 @@
 //! One exchange: a request is read whole, the office answers it, and only then is the answer written.
-ghost use Rattle.std.specs.Prelude.{◌≡◌, ℕ, List, [], IfSome, IsOk, None, Some, false, true};
+ghost use Rattle.std.specs.Prelude.{◌≡◌, ℕ, List, IfErr, IfSome, IsOk, None, Some, false, true};
 ghost use Rattle.std.specs.Cow.{cow_str_bytes};
 ghost use Rattle.wb_states.specs.Machine.{Machine};
 ghost use Rattle.wb_states.specs.declared.command.Command.{Command as AnyCommand};
@@ -10,8 +10,8 @@ ghost use Rattle.wb_api.specs.declared.request.Received.TheVariants.{Asked};
 ghost use Rattle.wb_api.specs.declared.request.Received.{Received as AnyReceived};
 ghost use Rattle.wb_api.specs.declared.request.Request.TheVariants.{Command as asked_Command};
 ghost use Rattle.wb_streams.specs.Streams.{Flags};
-ghost use Rattle.wb_api.specs.Exchange.{Exchanges, fails_to_write, is_asked, IsAnswer, is_silent, LeadsOn, Receives};
-ghost use Rattle.wb_api.specs.Exchange.{Responds, response_of_answer, Sends, TellsOk};
+ghost use Rattle.wb_api.specs.Exchange.{Begins, Exchanges, fails_to_write, is_asked, IsAnswer, is_silent, LeadsOn};
+ghost use Rattle.wb_api.specs.Exchange.{Receives, ReceivesWith, Responds, response_of_answer, Sends, TellsOk};
 
 use crate::answer::{HttpAnswer, answer_command, fault_answer, memory_answer};
 use crate::ask::answer_query;
@@ -21,7 +21,7 @@ use http::StatusCode;
 use std::alloc::Global;
 use std::io::{Read, Write};
 use wb_step::CarryOut;
-use wb_streams::{WatchedReader, WatchedWriter, write_answer};
+use wb_streams::{Fault, WatchedReader, WatchedWriter, write_answer};
 
 /// How an exchange ended.
 /// Source: this project's own.
@@ -62,11 +62,13 @@ fn answer_request<O: CarryOut>(
     match request {
         Request::Command(command) => answer_command(alloc, office, command),
         Request::Query(query) => Some(answer_query(alloc, office, query)),
+        // There is no list, so that the office has nothing to merge.
+        Request::Merge(_) => Some(fault_answer(Fault::NoList)),
     }
 }
 
 /// Writes the answer.
-fn send<W: Write + Drop>(writer: &mut WatchedWriter<W>, answer: &HttpAnswer) -> Served
+pub(crate) fn send<W: Write + Drop>(writer: &mut WatchedWriter<W>, answer: &HttpAnswer) -> Served
     ensures value { (machine : Machine) → Sends (response_of_answer answer.now machine)
         writer.old.bytes writer.new.bytes result }
     ensures spoken { is_silent result ≡ false }
@@ -77,6 +79,29 @@ fn send<W: Write + Drop>(writer: &mut WatchedWriter<W>, answer: &HttpAnswer) -> 
         Served::Answered { status }
     } else {
         Served::WriteFailed { status }
+    }
+}
+
+/// Reads one request, with merges if `has_lists`. If none came, or none that is to be carried out, its fault is answered,
+/// and the error is how the exchange ended.
+pub(crate) fn receive<R: Read + Drop, W: Write + Drop>(
+    alloc: Global,
+    routes: &Routes,
+    has_lists: bool,
+    reader: &mut WatchedReader<R>,
+    writer: &mut WatchedWriter<W>,
+) -> Result<Request, Served>
+    ensures value { (received : AnyReceived) × ReceivesWith has_lists reader.old reader.new received
+        × Begins received writer.old writer.new result }
+    ensures silent { IfErr result (λ served. is_silent served ≡ true → writer.new.bytes ≡ writer.old.bytes) }
+    ensures failed { IfErr result (λ served. Flags (fails_to_write served) writer.old writer.new) }
+{
+    match read_request(alloc, routes, has_lists, reader) {
+        Received::Asked(request) => Ok(request),
+        Received::Nothing => Err(Served::Nothing),
+        Received::Failed => Err(Served::ReadFailed),
+        Received::Memory => Err(send(writer, &memory_answer(alloc))),
+        Received::Refused(fault) => Err(send(writer, &fault_answer(fault))),
     }
 }
 
@@ -117,12 +142,9 @@ fn exchange<O: CarryOut, R: Read + Drop, W: Write + Drop>(
     ensures silent { is_silent result ≡ true → writer.new.bytes ≡ writer.old.bytes }
     ensures failed { Flags (fails_to_write result) writer.old writer.new }
 {
-    match read_request(alloc, routes, reader) {
-        Received::Nothing => Served::Nothing,
-        Received::Failed => Served::ReadFailed,
-        Received::Memory => send(writer, &memory_answer(alloc)),
-        Received::Refused(fault) => send(writer, &fault_answer(fault)),
-        Received::Asked(request) => respond(alloc, office, &request, writer),
+    match receive(alloc, routes, false, reader, writer) {
+        Ok(request) => respond(alloc, office, &request, writer),
+        Err(served) => served,
     }
 }
 
@@ -166,30 +188,4 @@ pub fn serve_one<O: CarryOut, R: Read + Drop, W: Write + Drop>(
     ensures failed { Flags (fails_to_write result) writer.old writer.new }
 {
     exchange(alloc, routes, office, reader, writer)
-}
-
-// An answer takes memory here alone, since it is kept until the client takes it. If there is none,
-// the client gets a front, as after a failed write. An answer that is written to the socket at once
-// would have all others wait.
-/// Serves one exchange over the bytes of a request that has come, as `serve_one` does over a reader:
-/// how it ended, and the bytes of the answer. If there is no memory for all of these, it ended with a
-/// failed write, and they are a front.
-/// Source: RFC 9112, section 9.3, for one exchange; the rest is this project's own.
-pub fn answer_of<O: CarryOut>(
-    alloc: Global,
-    routes: &Routes,
-    office: &mut O,
-    request: &[u8],
-) -> (Served, Vec<u8>)
-    ensures clean { O.is_clean office.new → O.is_clean office.old }
-    ensures value { (received : AnyReceived) × Means request.now received
-        × (is_asked received ≡ false → office.new ≡ office.old)
-        × LeadsOn O.is_clean O.is_closed O.stands_at O.leaves office.old office.new
-        (λ before after standing. Exchanges received before after standing
-        (Some []) (Some result.1.items) result.0) }
-{
-    let mut reader = WatchedReader::new(request);
-    let mut writer = WatchedWriter::new(Vec::new(alloc));
-    let served = serve_one(alloc, routes, office, &mut reader, &mut writer);
-    (served, writer.into_inner())
 }

@@ -54,10 +54,14 @@ returns-clause-value g c =
     let response = response_of_answer c.refusal_answer.result in
     let e = c.in-Err.ensures in
     refusal-leads_on g.O.CarryOut.is_clean g.O.CarryOut.is_closed g.O.CarryOut.stands_at g.O.CarryOut.leaves c.args.office.now c.carry_out.new.self
-    (λ before after standing. IsCommandAnswer before c.args.command.now (response after) standing) c.in-Err.refusal (InDoubt c.args.command.now)
+    (λ before after standing. IsCommandAnswer before c.args.command.now (response after) standing) c.in-Err.refusal
     (store-shuts g.O.CarryOut.is_closed c.args.office.now c.carry_out.new.self c.in-Err.refusal (λ was. (e.shut was).1) e.stands)
     (λ before clean stands is. (e.closed before clean stands (ap Err is), inr (inl (said-as over_http before (response before) is (said before), refl))))
-    (λ before clean stands fault is. (e.store before clean stands fault (ap Err is), inr (inr (fault, said-as over_http before (response before) is (said before), refl))))
+    (λ before clean stands fault is. (
+      InDoubt c.args.command.now fault,
+      e.store before clean stands fault (ap Err is),
+      inr (inr (fault, said-as over_http before (response before) is (said before), refl)),
+    ))
     (λ before clean stands is. let wants = e.memory before clean stands (ap Err is) in
     (wants.1, memory-answered before c.args.command.now (response before) wants.0 (said-as over_http before (response before) is (said before))))
     (λ before clean stands machine other. let refused = e.refused before clean stands machine other in

@@ -7,7 +7,7 @@ use Rattle.wb_api.proofs.laws.pages_ask_for_nothing.Goals as goal
 pub returns : goal.returns
 unfolding httparse_on_literals serde_json_on_literals http_on_literals
 returns c = record {
-  value = λ head rest page. rw page refl;
+  value = λ lists head rest page. rw page refl;
   form = refl;
   fetched = refl;
   first = refl;

@@ -10,5 +10,6 @@ returns-in-Some-Some c = record {
       let same = request_unique _ _ _ _ _ at.reads holds.1.reads in
       let method : Some c.in-Some-Some.method.now ≡ Some holds.0.method = ap option_copied (sym c.in-Some-Some.is-0) ∙ holds.1.method in
       let target : Some c.in-Some-Some.target.now ≡ Some holds.0.target = ap option_copied (sym c.in-Some-Some.is-1) ∙ holds.1.path in
-      wanted_same c.wanted_from.result head holds.0 c.in-Some-Some.method.now c.in-Some-Some.target.now _ same.0 (cc method) (cc target) holds.1.fields c.wanted_from.ensures.value;
+      wanted_same c.args.has_lists c.wanted_from.result head holds.0
+      c.in-Some-Some.method.now c.in-Some-Some.target.now _ same.0 (cc method) (cc target) holds.1.fields c.wanted_from.ensures.value;
 }

@@ -1,58 +1,50 @@
 -- What was received is what the input means, and it was answered.
-use Rattle.std.proofs.Common.{refl, subst, sym, ◌∙◌}
+use Rattle.std.proofs.Common.{ap, refl, subst, sym, ◌∙◌}
 use Rattle.std.proofs.lemmas.Bool.{false≢true}
 use Rattle.wb_api.specs.declared.request.Received.TheVariants as received
+use Rattle.wb_lists.specs.Lists.{no_lists}
 use Rattle.wb_step.specs.Offices.{Open}
-use Rattle.wb_api.specs.Exchange.{Sends}
+use Rattle.wb_streams.specs.Streams.{Flags, Stream}
+use Rattle.wb_api.specs.Exchange.{Exchanges, LeadsOn, Receives, fails_to_write}
+use Rattle.wb_api.proofs.ExchangeLemmas.{unasked-exchanges}
 use Rattle.wb_api.proofs.serve.exchange.Goals as goal
 
-pub returns-in-Nothing-clause-value : goal.returns-in-Nothing-clause-value
-returns-in-Nothing-clause-value g c = (
-  received.Nothing,
-  record { value = c.in-Nothing.ensures.value; failed = c.in-Nothing.ensures.failed; front = c.in-Nothing.ensures.front; bound = c.in-Nothing.ensures.bound; memory = c.in-Nothing.ensures.memory },
-  λ _. refl,
-  λ before clean stands. (before, Open, stands, ((refl, refl, refl, refl), λ open_still. refl)),
-)
+pub returns-in-Ok-clause-value : goal.returns-in-Ok-clause-value
+returns-in-Ok-clause-value g c =
+    let came = c.in-Ok.ensures.value in (
+      received.Asked c.in-Ok.request,
+      subst (Receives c.args.reader.now c.receive.new.reader) came.2.0 came.1,
+      λ e. absurd (false≢true (sym e)),
+      subst (λ (writer : Stream). LeadsOn g.O.CarryOut.is_clean g.O.CarryOut.is_closed g.O.CarryOut.stands_at
+          g.O.CarryOut.leaves
+          c.args.office.now c.respond.new.office (λ before after standing.
+          Exchanges (received.Asked c.in-Ok.request) before after standing writer.bytes c.respond.new.writer.bytes
+          c.respond.result))
+          came.2.1 c.respond.ensures.value,
+    )
 
-pub returns-in-Failed-clause-value : goal.returns-in-Failed-clause-value
-returns-in-Failed-clause-value g c = (
-  received.Failed,
-  record { value = c.in-Failed.ensures.value; failed = c.in-Failed.ensures.failed; front = c.in-Failed.ensures.front; bound = c.in-Failed.ensures.bound; memory = c.in-Failed.ensures.memory },
-  λ _. refl,
-  λ before clean stands. (before, Open, stands, ((refl, refl, refl, refl), λ open_still. refl)),
-)
+pub returns-in-Ok-clause-silent : goal.returns-in-Ok-clause-silent
+returns-in-Ok-clause-silent g c = λ silent. c.respond.ensures.silent silent
+    ∙ ap (λ (writer : Stream). writer.bytes) c.in-Ok.ensures.value.2.1
 
-pub returns-in-Memory-clause-value : goal.returns-in-Memory-clause-value
-returns-in-Memory-clause-value g c = (
-  received.Memory,
-  record { value = c.in-Memory.ensures.value; failed = c.in-Memory.ensures.failed; front = c.in-Memory.ensures.front; bound = c.in-Memory.ensures.bound; memory = c.in-Memory.ensures.memory },
-  λ _. refl,
-  λ before clean stands.
-      let sent = subst (λ response. Sends response c.args.writer.now.bytes c.send.new.writer.bytes c.send.result) (c.memory_answer.ensures.value before) (c.send.ensures.value before) in
-      (before, Open, stands, ((refl, refl, sent), λ open_still. refl)),
-)
+pub returns-in-Ok-clause-failed : goal.returns-in-Ok-clause-failed
+returns-in-Ok-clause-failed g c =
+    subst (λ (writer : Stream). Flags (fails_to_write c.respond.result) writer c.respond.new.writer)
+    c.in-Ok.ensures.value.2.1 c.respond.ensures.failed
 
-pub returns-in-Memory-clause-silent : goal.returns-in-Memory-clause-silent
-returns-in-Memory-clause-silent g c = λ silent. absurd (false≢true (sym c.send.ensures.spoken ∙ silent))
-
-pub returns-in-Refused-clause-value : goal.returns-in-Refused-clause-value
-returns-in-Refused-clause-value g c = (
-  received.Refused c.in-Refused.fault,
-  record { value = c.in-Refused.ensures.value; failed = c.in-Refused.ensures.failed; front = c.in-Refused.ensures.front; bound = c.in-Refused.ensures.bound; memory = c.in-Refused.ensures.memory },
-  λ _. refl,
-  λ before clean stands.
-      let sent = subst (λ response. Sends response c.args.writer.now.bytes c.send-in-Refused.new.writer.bytes c.send-in-Refused.result)
-      (c.fault_answer.ensures.value before) (c.send-in-Refused.ensures.value before) in
-      (before, Open, stands, ((refl, refl, sent), λ open_still. refl)),
-)
-
-pub returns-in-Refused-clause-silent : goal.returns-in-Refused-clause-silent
-returns-in-Refused-clause-silent g c = λ silent. absurd (false≢true (sym c.send-in-Refused.ensures.spoken ∙ silent))
-
-pub returns-in-Asked-clause-value : goal.returns-in-Asked-clause-value
-returns-in-Asked-clause-value g c = (
-  received.Asked c.in-Asked.request,
-  record { value = c.in-Asked.ensures.value; failed = c.in-Asked.ensures.failed; front = c.in-Asked.ensures.front; bound = c.in-Asked.ensures.bound; memory = c.in-Asked.ensures.memory },
-  λ e. absurd (false≢true (sym e)),
-  c.respond.ensures.value,
-)
+pub returns-in-Err-clause-value : goal.returns-in-Err-clause-value
+returns-in-Err-clause-value g c =
+    let came = c.in-Err.ensures.value in (
+      came.0,
+      came.1,
+      λ _. refl,
+      λ before clean stands. (
+        before,
+        Open,
+        stands,
+        (
+          unasked-exchanges no_lists came.0 before _ _ c.in-Err.served (came.2 before),
+          λ open_still. refl,
+        ),
+      ),
+    )

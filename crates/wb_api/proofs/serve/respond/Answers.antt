@@ -1,8 +1,9 @@
 -- What was answered was written, or a front of it.
-use Rattle.std.proofs.Common.{inl, inr, refl, sym, ◌∙◌}
+use Rattle.std.proofs.Common.{inl, inr, refl, subst, sym, ◌∙◌}
 use Rattle.std.proofs.lemmas.Bool.{false≢true}
+use Rattle.wb_lists.specs.Lists.{no_lists}
 use Rattle.wb_step.specs.Offices.{Open}
-use Rattle.wb_api.specs.Exchange.{response_of_answer}
+use Rattle.wb_api.specs.Exchange.{AsksFor, response_of_answer}
 use Rattle.wb_api.proofs.serve.respond.Goals as goal
 
 pub returns-in-Some-clause-value : goal.returns-in-Some-clause-value
@@ -20,4 +21,5 @@ returns-in-Some-clause-silent g c = λ silent. absurd (false≢true (sym c.send.
 pub returns-in-None-clause-value : goal.returns-in-None-clause-value
 returns-in-None-clause-value g c = λ before clean stands.
     let done = c.in-None.ensures.memory refl before clean stands in
-    (done.0, Open, done.1, (inr (done.2.0, done.2.1, done.2.2, refl, refl, refl), λ open_still. refl))
+    let asks = subst (λ asked. AsksFor no_lists asked done.2.0) (sym done.2.1) refl in
+    (done.0, Open, done.1, (inr (done.2.0, asks, done.2.2, refl, refl, refl), λ open_still. refl))

@@ -1,0 +1,56 @@
+-- What was received is what the input means, and it was answered.
+use Rattle.std.proofs.Common.{ap, refl, subst, sym, ◌∙◌}
+use Rattle.std.proofs.lemmas.Bool.{false≢true}
+use Rattle.wb_api.specs.declared.request.Received.TheVariants as received
+use Rattle.wb_lists.proofs.ListLemmas.{MayReadLess-same}
+use Rattle.wb_step.specs.Offices.{Open}
+use Rattle.wb_streams.specs.Streams.{Flags, Stream}
+use Rattle.wb_api.specs.Exchange.{ExchangesWith, LeadsOn, ReceivesWith, fails_to_write}
+use Rattle.wb_api.proofs.ExchangeLemmas.{unasked-exchanges}
+use Rattle.wb_api.proofs.lists_exchange.exchange.Goals as goal
+
+pub returns-in-Ok-clause-value : goal.returns-in-Ok-clause-value
+returns-in-Ok-clause-value g c =
+    let came = c.in-Ok.ensures.value in (
+      received.Asked c.in-Ok.request,
+      subst (ReceivesWith c.args.has_lists c.args.reader.now c.receive.new.reader) came.2.0 came.1,
+      λ e. absurd (false≢true (sym e)),
+      c.respond.ensures.unopened,
+      subst (λ (writer : Stream). LeadsOn g.O.CarryOut.is_clean g.O.CarryOut.is_closed g.O.CarryOut.stands_at
+          g.O.CarryOut.leaves
+          c.args.office.now c.respond.new.office (λ before after standing.
+          ExchangesWith (g.L.Lists.may_read c.args.lists.now) (received.Asked c.in-Ok.request) before after standing
+          writer.bytes c.respond.new.writer.bytes c.respond.result))
+          came.2.1 c.respond.ensures.value,
+    )
+
+pub returns-in-Ok-clause-silent : goal.returns-in-Ok-clause-silent
+returns-in-Ok-clause-silent g c = λ silent. c.respond.ensures.silent silent
+    ∙ ap (λ (writer : Stream). writer.bytes) c.in-Ok.ensures.value.2.1
+
+pub returns-in-Ok-clause-failed : goal.returns-in-Ok-clause-failed
+returns-in-Ok-clause-failed g c =
+    subst (λ (writer : Stream). Flags (fails_to_write c.respond.result) writer c.respond.new.writer)
+    c.in-Ok.ensures.value.2.1 c.respond.ensures.failed
+
+pub returns-in-Err-clause-value : goal.returns-in-Err-clause-value
+returns-in-Err-clause-value g c =
+    let came = c.in-Err.ensures.value in (
+      came.0,
+      came.1,
+      λ _. refl,
+      λ _. refl,
+      λ before clean stands. (
+        before,
+        Open,
+        stands,
+        (
+          unasked-exchanges (g.L.Lists.may_read c.args.lists.now) came.0 before _ _
+              c.in-Err.served (came.2 before),
+          λ open_still. refl,
+        ),
+      ),
+    )
+
+pub returns-in-Err-clause-kept : goal.returns-in-Err-clause-kept
+returns-in-Err-clause-kept g c = MayReadLess-same (g.L.Lists.may_read c.args.lists.now)
