@@ -1,1 +1,2 @@
 pub mod ExchangeLemmas
+pub mod PlaceLemmas

@@ -1,10 +1,10 @@
 -- What a connection has of its exchange: what has come of the request, and then the answer and how much of it was
 -- written (RFC 9112, section 9.3).
-use Rattle.std.specs.Prelude.{◌≡◌, ◌≢◌, ◌⊎◌, ℕ, ◌+◌, ◌≤◌, Bool, true, false, List, [], ◌++◌, length, take, drop, Option}
+use Rattle.std.specs.Prelude.{◌≡◌, ◌⊎◌, ℕ, ◌+◌, ◌≤◌, Bool, true, false, List, [], ◌++◌, length, take, drop, Option}
 use Rattle.std.specs.Prelude.{None, Some}
 use Rattle.std.specs.Io.KnownBytes.{Appends, Consumes, IsAtEnd, Keeps}
-use Rattle.wb_api.specs.Coming.{IsSettled}
-use Rattle.wb_api.specs.Requests.{IsRequestFront}
+use Rattle.wb_api.specs.Coming.{IsSettledWith}
+use Rattle.wb_api.specs.Requests.{IsRequestFrontWith}
 use Rattle.wb_serve.specs.declared.connection.Stage.{Stage}
 use Rattle.wb_serve.specs.declared.connection.Stage.TheVariants as stage
 use Rattle.wb_serve.specs.declared.connection.Took.{Took}
@@ -43,6 +43,17 @@ asked_at (stage.Answer done) bytes = None
 abbrev pub asked_of : ConnectionState → Option (List ℕ)
 asked_of c = asked_at c.stage c.bytes
 
+-- the answer that there is at this stage
+abbrev pub given_at : Stage → List ℕ → Option (List ℕ)
+given_at stage.Head bytes = None
+given_at (stage.Body total) bytes = None
+given_at stage.Ready bytes = None
+given_at (stage.Answer done) bytes = Some bytes
+
+-- the answer that a connection has
+abbrev pub given_of : ConnectionState → Option (List ℕ)
+given_of c = given_at c.stage c.bytes
+
 -- of a request of which more was to come, these bytes came after those that had come
 abbrev pub Adds : ConnectionState → ConnectionState → Option (List ℕ) → Option (List ℕ) → Type 0
 Adds old new before after = (is_coming old.stage ≡ true)
@@ -52,27 +63,27 @@ Adds old new before after = (is_coming old.stage ≡ true)
 abbrev pub Rests : ConnectionState → ConnectionState → Option (List ℕ) → Option (List ℕ) → Type 0
 Rests old new before after = (new ≡ old) × Keeps before after
 
--- what a read gave: bytes, after which more of the request has to come; a request, or all that comes; nothing; or a
--- failure, which leaves the connection as it was. Only a connection of whose request more was to come reads, and then
--- waits for an answer
-abbrev pub IsRead : Took → ConnectionState → ConnectionState → Option (List ℕ) → Option (List ℕ) → Type 0
-IsRead took.Some old new before after =
-    Adds old new before after × (is_coming new.stage ≡ true) × IsRequestFront new.bytes
-IsRead took.All old new before after =
-    Adds old new before after × (new.stage ≡ stage.Ready) × (IsSettled new.bytes ⊎ IsAtEnd after)
-IsRead took.Again old new before after = Rests old new before after
-IsRead took.Later old new before after = Rests old new before after
-IsRead took.Failed old new before after = (is_coming old.stage ≡ true) × (new ≡ old)
+-- what a read gave, with lists or without: bytes, after which more of the request has to come; a request, or all that
+-- comes; nothing; or a failure, which leaves the connection as it was. Only a connection of whose request more was to
+-- come reads, and then waits for an answer
+abbrev pub IsRead : Bool → Took → ConnectionState → ConnectionState → Option (List ℕ) → Option (List ℕ) → Type 0
+IsRead has_lists took.Some old new before after =
+    Adds old new before after × (is_coming new.stage ≡ true) × IsRequestFrontWith has_lists new.bytes
+IsRead has_lists took.All old new before after =
+    Adds old new before after × (new.stage ≡ stage.Ready) × (IsSettledWith has_lists new.bytes ⊎ IsAtEnd after)
+IsRead has_lists took.Again old new before after = Rests old new before after
+IsRead has_lists took.Later old new before after = Rests old new before after
+IsRead has_lists took.Failed old new before after = (is_coming old.stage ≡ true) × (new ≡ old)
 
 -- bytes were added to what had come, and more has to come or a request has come; or there is no memory for them
-abbrev pub IsAdded : Took → ConnectionState → ConnectionState → List ℕ → Type 0
-IsAdded took.Some old new came =
-    (new.bytes ≡ old.bytes ++ came) × (is_coming new.stage ≡ true) × IsRequestFront new.bytes
-IsAdded took.All old new came =
-    (new.bytes ≡ old.bytes ++ came) × (new.stage ≡ stage.Ready) × IsSettled new.bytes
-IsAdded took.Again old new came = ⊥
-IsAdded took.Later old new came = ⊥
-IsAdded took.Failed old new came = new ≡ old
+abbrev pub IsAdded : Bool → Took → ConnectionState → ConnectionState → List ℕ → Type 0
+IsAdded has_lists took.Some old new came =
+    (new.bytes ≡ old.bytes ++ came) × (is_coming new.stage ≡ true) × IsRequestFrontWith has_lists new.bytes
+IsAdded has_lists took.All old new came =
+    (new.bytes ≡ old.bytes ++ came) × (new.stage ≡ stage.Ready) × IsSettledWith has_lists new.bytes
+IsAdded has_lists took.Again old new came = ⊥
+IsAdded has_lists took.Later old new came = ⊥
+IsAdded has_lists took.Failed old new came = new ≡ old
 
 -- so many bytes of an answer were written, and then the next
 abbrev pub WritesNext : ConnectionState → ConnectionState → Option (List ℕ) → Option (List ℕ) → Type 0

@@ -1,6 +1,7 @@
 //! One client: its socket, which never waits, and its connection.
 ghost use Rattle.std.specs.Prelude.{◌≡◌, ◌↔◌, IsTrue, [], ◌∷◌, ◌++◌, option_map};
-ghost use Rattle.wb_serve.specs.Connections.{asked_of, put};
+ghost use Rattle.wb_serve.specs.Connections.{asked_of, given_of, opened, put};
+ghost use Rattle.wb_serve.specs.Places.{IsNotGiven};
 ghost use Rattle.wb_serve.specs.declared.connection.Stage.TheVariants.{Ready};
 
 use crate::connection::{Connection, Stage, Took, Wrote};
@@ -41,8 +42,21 @@ pub(crate) enum Next {
     Close,
     /// Reading failed before the request had come.
     ReadFailed,
+    /// The request had come, and got no answer.
+    Unanswered,
     /// Writing failed before the answer was written.
     WriteFailed,
+}
+
+/// What a client holds that others want.
+#[derive(Clone, Copy, Debug, PartialEq, Eq)]
+pub(crate) enum Wanted {
+    /// Its place.
+    Place,
+    /// Memory for the rest of its request.
+    Room,
+    /// Memory for its answer.
+    Answer,
 }
 
 /// What the clients share.
@@ -52,6 +66,8 @@ pub(crate) struct Shared<'a> {
     pub(crate) alloc: Global,
     /// The paths that are served.
     pub(crate) routes: &'a Routes,
+    /// Whether lists are served, so that a merge has a path.
+    pub(crate) has_lists: bool,
     /// Where what is read lies until it is kept.
     pub(crate) buffer: Vec<u8>,
     /// How many bytes more the requests that are not small may have together.
@@ -87,7 +103,9 @@ pub(crate) struct Client {
 
 impl Client {
     /// A client that has just connected.
-    pub(crate) fn new(alloc: Global, stream: TcpStream, now: Duration) -> Client {
+    pub(crate) fn new(alloc: Global, stream: TcpStream, now: Duration) -> Client
+        ensures opened { result.connection ≡ opened }
+    {
         Client {
             stream,
             connection: Connection::new(alloc),
@@ -103,13 +121,17 @@ impl Client {
     }
 
     /// Says that its socket may be ready for this.
-    pub(crate) fn wake(&mut self, readable: bool, writable: bool) {
+    pub(crate) fn wake(&mut self, readable: bool, writable: bool)
+        ensures connection { self.new.connection ≡ self.old.connection }
+    {
         self.readable = self.readable || readable;
         self.writable = self.writable || writable;
     }
 
     /// Gives back what it holds of the room, and says whether that is anything.
-    pub(crate) fn release(&mut self, shared: &mut Shared<'_>) -> bool {
+    pub(crate) fn release(&mut self, shared: &mut Shared<'_>) -> bool
+        ensures connection { self.new.connection ≡ self.old.connection }
+    {
         let held = self.held.unwrap_or(0);
         shared.room = shared.room.saturating_add(held);
         self.held = None;
@@ -117,27 +139,25 @@ impl Client {
     }
 
     /// Notes that its answer is not being written any more.
-    pub(crate) fn end_answer(&mut self, shared: &mut Shared<'_>) {
+    pub(crate) fn end_answer(&mut self, shared: &mut Shared<'_>)
+        ensures connection { self.new.connection ≡ self.old.connection }
+    {
         shared.answers = shared.answers.saturating_sub(self.answer);
         self.answer = 0;
     }
 
-    /// Whether it holds memory for the rest of its request, and has sent nothing since then.
-    pub(crate) fn stalls_since(&self, time: Duration) -> bool {
-        match self.connection.stage() {
-            Stage::Body(_) => 0 < self.held.unwrap_or(0) && self.moved <= time,
-            _ => false,
-        }
-    }
-
-    /// Whether it has an answer, and has taken nothing of it since then.
-    pub(crate) fn leaves_since(&self, time: Duration) -> bool {
-        0 < self.answer && self.moved <= time
-    }
-
-    /// Whether it neither sent nor took anything since then, although it was to.
-    pub(crate) fn is_idle_since(&self, time: Duration) -> bool {
-        self.dropped.is_none() && self.connection.stage() != Stage::Ready && self.moved <= time
+    /// Whether it holds what is wanted, and neither sent nor took anything since then, although it
+    /// was to.
+    pub(crate) fn is_idle_since(&self, wanted: Wanted, time: Duration) -> bool {
+        let holds = match wanted {
+            Wanted::Place => self.dropped.is_none() && self.connection.stage() != Stage::Ready,
+            Wanted::Room => match self.connection.stage() {
+                Stage::Body(_) => 0 < self.held.unwrap_or(0),
+                _ => false,
+            },
+            Wanted::Answer => 0 < self.answer,
+        };
+        holds && self.moved <= time
     }
 
     /// Whether its head has not come.
@@ -191,15 +211,20 @@ impl Client {
     }
 
     /// Notes the status of its answer, and how many bytes it has.
-    pub(crate) fn note(&mut self, shared: &mut Shared<'_>, code: u16, length: usize) {
+    pub(crate) fn note(&mut self, shared: &mut Shared<'_>, code: u16, length: usize)
+        ensures connection { self.new.connection ≡ self.old.connection }
+    {
         self.moved = shared.now;
         self.code = code;
         self.answer = length;
         shared.answers = shared.answers.saturating_add(length);
     }
 
-    /// The steps of a turn.
-    pub(crate) fn steps(&mut self, shared: &mut Shared<'_>) -> Next {
+    /// The steps of a turn. None of them gives it an answer.
+    pub(crate) fn steps(&mut self, shared: &mut Shared<'_>) -> Next
+        ensures given { IsNotGiven (given_of self.old.connection)
+            (given_of self.new.connection) }
+    {
         if self.deadline <= shared.now {
             return self.overdue();
         }
@@ -218,13 +243,17 @@ impl Client {
             return Next::Close;
         }
         match self.connection.stage() {
+            Stage::Head | Stage::Body(_) => Next::ReadFailed,
+            Stage::Ready => Next::Unanswered,
             Stage::Answer(_) => Next::WriteFailed,
-            _ => Next::ReadFailed,
         }
     }
 
     /// One step, with one call of the system at most.
-    fn step(&mut self, shared: &mut Shared<'_>) -> Next {
+    fn step(&mut self, shared: &mut Shared<'_>) -> Next
+        ensures given { IsNotGiven (given_of self.old.connection)
+            (given_of self.new.connection) }
+    {
         if let Some(dropped) = self.dropped {
             return self.drain(shared, dropped);
         }
@@ -237,15 +266,23 @@ impl Client {
     }
 
     /// Reads what comes of the request.
-    fn read(&mut self, shared: &mut Shared<'_>) -> Next {
+    fn read(&mut self, shared: &mut Shared<'_>) -> Next
+        ensures given { IsNotGiven (given_of self.old.connection)
+            (given_of self.new.connection) }
+    {
         if !self.readable {
             return Next::Wait;
         }
         let alloc = shared.alloc;
         let routes = shared.routes;
-        let took = self
-            .connection
-            .read_from(alloc, routes, &mut self.stream, &mut shared.buffer);
+        let has_lists = shared.has_lists;
+        let took = self.connection.read_from(
+            alloc,
+            routes,
+            has_lists,
+            &mut self.stream,
+            &mut shared.buffer,
+        );
         match took {
             Took::Some => {
                 self.moved = shared.now;
@@ -262,7 +299,10 @@ impl Client {
     }
 
     /// Reads the rest of a request of this many bytes, once there is memory for all of them.
-    fn read_body(&mut self, shared: &mut Shared<'_>, total: usize) -> Next {
+    fn read_body(&mut self, shared: &mut Shared<'_>, total: usize) -> Next
+        ensures given { IsNotGiven (given_of self.old.connection)
+            (given_of self.new.connection) }
+    {
         if self.held.is_none() && !self.reserve(shared, total) {
             return Next::Wait;
         }
@@ -272,7 +312,9 @@ impl Client {
     // The whole length is taken before the body is read: if bytes were counted as they come, many
     // half-read bodies would fill the room, and none of them would end.
     /// Takes the memory for a request of this many bytes, if there is room for it.
-    fn reserve(&mut self, shared: &mut Shared<'_>, total: usize) -> bool {
+    fn reserve(&mut self, shared: &mut Shared<'_>, total: usize) -> bool
+        ensures connection { self.new.connection ≡ self.old.connection }
+    {
         let held = if total <= SMALL { 0 } else { total };
         let Some(left) = shared.room.checked_sub(held) else {
             shared.is_short = true;
@@ -288,7 +330,10 @@ impl Client {
     }
 
     /// Writes what the socket takes of the answer, and closes this end after it.
-    fn write(&mut self, shared: &mut Shared<'_>) -> Next {
+    fn write(&mut self, shared: &mut Shared<'_>) -> Next
+        ensures given { IsNotGiven (given_of self.old.connection)
+            (given_of self.new.connection) }
+    {
         if !self.writable {
             return Next::Wait;
         }
@@ -313,7 +358,10 @@ impl Client {
     // costs nothing.
     /// Closes this end, so that a client which is still sending gets its answer (RFC 9112, section
     /// 9.6).
-    fn close(&mut self, shared: &mut Shared<'_>) -> Next {
+    fn close(&mut self, shared: &mut Shared<'_>) -> Next
+        ensures given { IsNotGiven (given_of self.old.connection)
+            (given_of self.new.connection) }
+    {
         self.end_answer(shared);
         self.connection = Connection::new(shared.alloc);
         self.dropped = Some(0);
@@ -327,7 +375,10 @@ impl Client {
     }
 
     /// Drops what the client still sends, up to its end.
-    fn drain(&mut self, shared: &mut Shared<'_>, dropped: usize) -> Next {
+    fn drain(&mut self, shared: &mut Shared<'_>, dropped: usize) -> Next
+        ensures given { IsNotGiven (given_of self.old.connection)
+            (given_of self.new.connection) }
+    {
         if !self.readable {
             return Next::Wait;
         }

@@ -1,11 +1,14 @@
 //! The service of an office: its clients are answered one after another, each once its request has
 //! come.
-ghost use Rattle.std.specs.Prelude.{◌≡◌, ℕ, List, [], ◌∷◌, ◌++◌, None, Option, Some, option_map};
+ghost use Rattle.std.specs.Prelude.{◌≡◌, ◌≢◌, ℕ, List, [], ◌∷◌, ◌++◌, None, Option, Some};
+ghost use Rattle.std.specs.Prelude.{option_map};
 ghost use Rattle.wb_serve.specs.Exchanges.{Answered, AnswersAll, AnswersOne, IsService, ServesAll};
+ghost use Rattle.wb_serve.specs.Places.{IsNotGiven};
 
 use std::alloc::Global;
-use wb_api::{Routes, Served, answer_of};
-use wb_step::CarryOut;
+use wb_api::{Routes, Served, answer_with_lists};
+use wb_archive::MergeFrom;
+use wb_lists::Lists;
 
 /// How many clients have a connection at once.
 pub const PLACES: usize = 256;
@@ -38,7 +41,8 @@ pub enum ServiceEnd {
 // with what had come of its request. That bytes come from the client at whose place they are kept,
 // that they go out to it, and that each is ever served, no contract of the kit says: tests do.
 // `Network` keeps the list in a `History`, which its sockets cannot reach.
-/// The clients of an office, each at a place below [`PLACES`] while it has a connection.
+/// The clients of an office, each at a place below [`PLACES`] while it has a connection. An answer
+/// lies at the place of the client that it is given to, and at no other, until the client goes.
 /// Source: this project's own.
 pub trait Clients {
     // The answers that were given, each with what had come of its request, in their order.
@@ -47,82 +51,110 @@ pub trait Clients {
     // What has come of the request of the client at a place, if it waits for its answer.
     ghost asked: { Self → ℕ → Option (List ℕ) };
 
+    // The answer that the client at a place has, from when it is given until it is written whole.
+    ghost given: { Self → ℕ → Option (List ℕ) };
+
     /// Waits until clients can go on, reads what they sent, writes what they take, and lets new
     /// ones in.
     fn turn(&mut self) -> Turn
-        ensures answered { answered self.new ≡ answered self.old };
+        ensures answered { answered self.new ≡ answered self.old }
+        ensures given { (place : ℕ) → IsNotGiven (given self.old place) (given self.new place) };
+
+    /// Whether another answer is to be made: those that are being written leave memory for it.
+    fn has_room(&self) -> bool;
 
     /// What has come of the request of the client at this place, if it waits for its answer.
     fn request(&self, place: usize) -> Option<&[u8]>
         ensures value { option_map (λ bytes. bytes.now) result ≡ asked self.now place };
 
     /// Gives the client at this place, which waits for its answer, an exchange's answer and how the
-    /// exchange ended.
+    /// exchange ended. The others keep what they have.
     fn answer(&mut self, place: usize, served: Served, answer: Vec<u8>)
         ensures answered { (request : List ℕ) → asked self.old place ≡ Some request
             → answered self.new ≡ answered self.old
             ++ record { request = request; answer = answer.items } ∷ [] }
-        ensures over { asked self.new place ≡ None };
+        ensures given { (request : List ℕ) → asked self.old place ≡ Some request
+            → given self.new place ≡ Some answer.items }
+        ensures over { asked self.new place ≡ None }
+        ensures others { (other : ℕ) → other ≢ place
+            → (asked self.new other ≡ asked self.old other)
+            × (given self.new other ≡ given self.old other) };
 
     /// Writes what the client at this place takes of its answer at once.
     fn send(&mut self, place: usize)
-        ensures answered { answered self.new ≡ answered self.old };
+        ensures answered { answered self.new ≡ answered self.old }
+        ensures given { (other : ℕ) → IsNotGiven (given self.old other) (given self.new other) };
 
     /// Lets no more clients in, and waits until those that have an answer have taken it, or had
     /// their time for it.
     fn finish(&mut self)
-        ensures answered { answered self.new ≡ answered self.old };
+        ensures answered { answered self.new ≡ answered self.old }
+        ensures given { (place : ℕ) → IsNotGiven (given self.old place) (given self.new place) };
 }
 
 /// Has the office answer the client at this place, if it waits for an answer.
-fn answer_place<O: CarryOut, C: Clients>(
+fn answer_place<O: MergeFrom, L: Lists, C: Clients>(
     alloc: Global,
     routes: &Routes,
+    has_lists: bool,
     office: &mut O,
+    lists: &mut L,
     clients: &mut C,
     place: usize,
 )
-    ensures value { AnswersOne O.is_clean O.is_closed O.stands_at O.leaves
-        (C.answered clients.old) (C.answered clients.new) office.old office.new }
+    ensures value { AnswersOne has_lists L.may_read O.is_clean O.is_closed O.stands_at O.leaves
+        (C.answered clients.old) (C.answered clients.new)
+        (record { office = office.old; lists = lists.old })
+        (record { office = office.new; lists = lists.new }) }
 {
     let Some(request) = clients.request(place) else {
         return;
     };
-    let (served, answer) = answer_of(alloc, routes, office, request);
+    let (served, answer) = answer_with_lists(alloc, routes, has_lists, office, lists, request);
     clients.answer(place, served, answer);
     clients.send(place);
 }
 
-/// Has the office answer each client that waits for an answer, once, until it is closed.
-fn answer_all<O: CarryOut, C: Clients>(
+/// Has the office answer each client that waits for an answer, once, until it is closed, or no
+/// other answer is to be made.
+fn answer_all<O: MergeFrom, L: Lists, C: Clients>(
     alloc: Global,
     routes: &Routes,
+    has_lists: bool,
     office: &mut O,
+    lists: &mut L,
     clients: &mut C,
 )
-    ensures value { ServesAll O.is_clean O.is_closed O.stands_at O.leaves
-        (C.answered clients.old) (C.answered clients.new) office.old office.new }
+    ensures value { ServesAll has_lists L.may_read O.is_clean O.is_closed O.stands_at O.leaves
+        (C.answered clients.old) (C.answered clients.new)
+        (record { office = office.old; lists = lists.old })
+        (record { office = office.new; lists = lists.new }) }
 {
     for place in 0..PLACES {
-        if office.closed() {
+        if office.closed() || !clients.has_room() {
             return;
         }
-        answer_place(alloc, routes, office, clients, place);
+        answer_place(alloc, routes, has_lists, office, lists, clients, place);
     }
 }
 
-/// Has an office that is closed answer each client that still waits for an answer, once.
-fn answer_late<O: CarryOut, C: Clients>(
+/// Has an office that is closed answer each client that still waits for an answer, once, room or
+/// not: such answers are short.
+fn answer_late<O: MergeFrom, L: Lists, C: Clients>(
     alloc: Global,
     routes: &Routes,
+    has_lists: bool,
     office: &mut O,
+    lists: &mut L,
     clients: &mut C,
 )
-    ensures value { AnswersAll O.is_clean O.is_closed O.stands_at O.leaves
-        (C.answered clients.old) (C.answered clients.new) office.old office.new }
+    ensures value { AnswersAll has_lists L.may_read O.is_clean O.is_closed O.stands_at O.leaves
+        (C.answered clients.old) (C.answered clients.new)
+        (record { office = office.old; lists = lists.old })
+        (record { office = office.new; lists = lists.new }) }
 {
     for place in 0..PLACES {
-        answer_place(alloc, routes, office, clients, place);
+        answer_place(alloc, routes, has_lists, office, lists, clients, place);
     }
 }
 
@@ -130,19 +162,24 @@ fn answer_late<O: CarryOut, C: Clients>(
 // know what became of them.
 /// Serves the clients of an office until all that were to be served have been, clients can no
 /// longer be heard, or the office is closed. Each is answered once its request has come, by one
-/// exchange as [`answer_of`] has it, and no byte of an answer is given out before its exchange has
-/// ended. Those whose requests have come when the office is closed are still answered.
+/// exchange as [`answer_with_lists`] has it, and no byte of an answer is given out before its
+/// exchange has ended. A merge has a path only if `has_lists`, and its lists are opened when its
+/// turn comes. Those whose requests have come when the office is closed are still answered.
 /// Source: this project's own.
-pub fn serve_clients<O: CarryOut, C: Clients>(
+pub fn serve_clients<O: MergeFrom, L: Lists, C: Clients>(
     alloc: Global,
     routes: &Routes,
+    has_lists: bool,
     office: &mut O,
+    lists: &mut L,
     clients: &mut C,
 ) -> ServiceEnd
     // each answer is that of an exchange over what had come of that request, in the order of the
     // exchanges
-    ensures value { IsService O.is_clean O.is_closed O.stands_at O.leaves
-        (C.answered clients.old) (C.answered clients.new) office.old office.new result }
+    ensures value { IsService has_lists L.may_read O.is_clean O.is_closed O.stands_at O.leaves
+        (C.answered clients.old) (C.answered clients.new)
+        (record { office = office.old; lists = lists.old })
+        (record { office = office.new; lists = lists.new }) result }
 {
     for _ in 0..u64::MAX {
         match clients.turn() {
@@ -153,9 +190,9 @@ pub fn serve_clients<O: CarryOut, C: Clients>(
                 return ServiceEnd::Stopped;
             }
         }
-        answer_all(alloc, routes, office, clients);
+        answer_all(alloc, routes, has_lists, office, lists, clients);
         if office.closed() {
-            answer_late(alloc, routes, office, clients);
+            answer_late(alloc, routes, has_lists, office, lists, clients);
             clients.finish();
             return ServiceEnd::Closed;
         }

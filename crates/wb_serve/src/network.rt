@@ -1,6 +1,6 @@
 //! The clients behind the sockets of a port.
 ghost use Rattle.std.specs.Prelude.{◌≡◌, ℕ, List, [], ◌∷◌, ◌++◌, None, Some, slice_get};
-ghost use Rattle.wb_serve.specs.Places.{asked_at, asked_in};
+ghost use Rattle.wb_serve.specs.Places.{asked_by, asked_in, given_by, given_in};
 
 use crate::client::Client;
 use crate::clients::{Clients, Turn};
@@ -16,9 +16,6 @@ use wb_api::{Routes, Served};
 #[derive(Drop)]
 pub struct Network<'a> {
     sockets: Sockets<'a>,
-    /// Whether the answers that are being written take so much memory that those who wait for one
-    /// wait on.
-    is_full: bool,
     history: History,
     /// How the last exchange ended, and how many bytes its answer has.
     served: Served,
@@ -26,12 +23,14 @@ pub struct Network<'a> {
 }
 
 impl<'a> Network<'a> {
-    /// The clients that connect to a port from now on: so many, or without a number all. The errors
-    /// are those of the system, and that there is no memory for their places.
+    /// The clients that connect to a port from now on: so many, or without a number all. They may
+    /// ask for a merge if `has_lists`. The errors are those of the system, and that there is no
+    /// memory for their places.
     /// Source: this project's own.
     pub fn new(
         rt: &'a HostRuntime,
         routes: &'a Routes,
+        has_lists: bool,
         listener: &'a TcpListener,
         count: Option<u32>,
     ) -> io::Result<Network<'a>> {
@@ -40,8 +39,7 @@ impl<'a> Network<'a> {
             None => u64::MAX,
         };
         Ok(Network {
-            sockets: Sockets::new(rt, routes, listener, limit)?,
-            is_full: false,
+            sockets: Sockets::new(rt, routes, has_lists, listener, limit)?,
             history: History::new(),
             served: Served::Nothing,
             length: 0,
@@ -52,18 +50,19 @@ impl<'a> Network<'a> {
 impl<'a> Clients for Network<'a> {
     ghost answered = { λ n. n.history };
 
-    ghost asked = { λ n place. asked_at n.is_full (slice_get n.sockets.places.items place) };
+    ghost asked = { λ n place. asked_by (slice_get n.sockets.places.items place) };
+
+    ghost given = { λ n place. given_by (slice_get n.sockets.places.items place) };
 
     fn turn(&mut self) -> Turn {
-        let turn = self.sockets.turn();
-        self.is_full = self.sockets.is_full();
-        turn
+        self.sockets.turn()
+    }
+
+    fn has_room(&self) -> bool {
+        !self.sockets.is_full()
     }
 
     fn request(&self, place: usize) -> Option<&[u8]> {
-        if self.is_full {
-            return None;
-        }
         match self.sockets.places.get(place) {
             Some(Some(client)) => client.request(),
             _ => None,
@@ -86,7 +85,6 @@ impl<'a> Clients for Network<'a> {
             self.sockets.remark(remark);
         }
         self.sockets.send(place, code_of(self.served), self.length);
-        self.is_full = self.sockets.is_full();
     }
 
     fn finish(&mut self) {
@@ -99,6 +97,8 @@ impl<'a> Clients for Network<'a> {
 fn give(place: &mut Option<Client>, history: &History, answer: Vec<u8>) -> Option<History>
     ensures given { (request : List ℕ) → asked_in place.old ≡ Some request
         → result ≡ Some (history.now ++ record { request = request; answer = answer.items } ∷ []) }
+    ensures put { (request : List ℕ) → asked_in place.old ≡ Some request
+        → given_in place.new ≡ Some answer.items }
     ensures over { asked_in place.new ≡ None }
 {
     let Some(client) = place else {

@@ -14,6 +14,8 @@ pub(crate) enum Remark<'a> {
     NotAccepted(&'a io::Error),
     /// Its request did not come to its end.
     NotRead,
+    /// Its request came, and was not answered.
+    NotAnswered,
     /// An answer of this status was not taken to its end.
     NotWritten(u16),
     /// Its command was accepted, and there was no memory for the answer.
@@ -83,6 +85,11 @@ impl<'a> Remarks<'a> {
             Remark::NotRead => {
                 eprintln!(self.rt;
                     "wb: a request was not read to its end, and nothing was done for it"
+                )
+            }
+            Remark::NotAnswered => {
+                eprintln!(self.rt;
+                    "wb: a request was read and not answered, and nothing was done for it"
                 )
             }
             Remark::NotWritten(code) => {

@@ -1,9 +1,13 @@
-//! The sockets of the clients that are served at once.
+//! The sockets of the clients that are served at once. None of them gives a client an answer.
+ghost use Rattle.std.specs.Prelude.{◌≡◌};
+ghost use Rattle.wb_serve.specs.Connections.{opened};
+ghost use Rattle.wb_serve.specs.Places.{AreNotGiven, IsNotGiven, given_in};
 
-use crate::client::{Client, LIMIT_SECONDS, Next, Shared};
+use crate::client::{Client, LIMIT_SECONDS, Next, Shared, Wanted};
 use crate::clients::{PLACES, Turn};
 use crate::remarks::{Remark, Remarks};
-use mio::net::TcpListener;
+use mio::event::Event;
+use mio::net::{TcpListener, TcpStream};
 use mio::unix::SourceFd;
 use mio::{Events, Interest, Poll, Token};
 use std::alloc::Global;
@@ -73,6 +77,7 @@ impl<'a> Sockets<'a> {
     pub(crate) fn new(
         rt: &'a HostRuntime,
         routes: &'a Routes,
+        has_lists: bool,
         listener: &'a TcpListener,
         left: u64,
     ) -> io::Result<Sockets<'a>> {
@@ -94,6 +99,7 @@ impl<'a> Sockets<'a> {
             shared: Shared {
                 alloc: rt.alloc(),
                 routes,
+                has_lists,
                 buffer: vec![in rt.alloc(); 0u8; BUFFER]?,
                 room: ROOM,
                 is_short: false,
@@ -115,7 +121,9 @@ impl<'a> Sockets<'a> {
 
     /// Waits until a client or a connection is ready, accepts connections, and has all clients
     /// step.
-    pub(crate) fn turn(&mut self) -> Turn {
+    pub(crate) fn turn(&mut self) -> Turn
+        ensures given { AreNotGiven self.old.places.items self.new.places.items }
+    {
         if self.left == 0 && self.count == 0 {
             return Turn::Done;
         }
@@ -137,28 +145,48 @@ impl<'a> Sockets<'a> {
         Turn::Go
     }
 
-    /// Closes a connection if its place or its memory is wanted, and it has been idle.
-    fn let_go(&mut self) {
+    /// Closes connections whose place or whose memory is wanted, one of each kind, if they have
+    /// been idle.
+    fn let_go(&mut self)
+        ensures given { AreNotGiven self.old.places.items self.new.places.items }
+    {
         if self.is_crowded() {
-            self.make_place();
+            let place = self.crowding_place();
+            self.end(place);
         }
         if self.shared.is_short {
-            self.make_room();
+            let place = self.idle_place(Wanted::Room);
+            self.end(place);
         }
         if self.is_full() {
-            self.make_room_for_answers();
+            let place = self.idle_place(Wanted::Answer);
+            self.end(place);
         }
+    }
+
+    /// Closes the connection of the client at this place, if there is one.
+    fn end(&mut self, index: usize)
+        ensures given { AreNotGiven self.old.places.items self.new.places.items }
+    {
+        let Some(Some(client)) = self.places.get(index) else {
+            return;
+        };
+        let next = client.overdue();
+        self.settle(index, next);
+        self.busy = true;
     }
 
     /// Accepts no more connections, closes those without an answer, and waits until the others have
     /// theirs.
-    pub(crate) fn finish(&mut self) {
+    pub(crate) fn finish(&mut self)
+        ensures given { AreNotGiven self.old.places.items self.new.places.items }
+    {
         self.left = 0;
         self.failures = 0;
         for index in 0..PLACES {
             if let Some(Some(client)) = self.places.get(index) {
                 if !client.is_answered() {
-                    self.settle(index, Next::ReadFailed);
+                    self.end(index);
                 }
             }
         }
@@ -171,16 +199,32 @@ impl<'a> Sockets<'a> {
     }
 
     /// Has the client at this place, which has just got its answer of this status and length, step.
-    pub(crate) fn send(&mut self, index: usize, code: u16, length: usize) {
+    pub(crate) fn send(&mut self, index: usize, code: u16, length: usize)
+        ensures given { AreNotGiven self.old.places.items self.new.places.items }
+    {
         self.release(index);
-        if let Some(Some(client)) = self.places.get_mut(index) {
-            client.note(&mut self.shared, code, length);
+        self.note(index, code, length);
+        self.look_at_clock();
+        let next = self.step(index);
+        self.settle(index, next);
+    }
+
+    /// Notes of the client at this place that it has an answer of this status and length.
+    fn note(&mut self, index: usize, code: u16, length: usize)
+        ensures given { AreNotGiven self.old.places.items self.new.places.items }
+    {
+        if let Some(place) = self.places.get_mut(index) {
+            note(place, &mut self.shared, code, length);
         }
+    }
+
+    /// Takes over the time, if the clock can be read.
+    fn look_at_clock(&mut self)
+        ensures places { self.new.places.items ≡ self.old.places.items }
+    {
         if let Ok(now) = self.start.elapsed(self.rt) {
             self.shared.now = now;
         }
-        let next = self.step(index);
-        self.settle(index, next);
     }
 
     /// Whether so many bytes of answers are being written that no further one is to be made.
@@ -189,7 +233,9 @@ impl<'a> Sockets<'a> {
     }
 
     /// Says something about a client.
-    pub(crate) fn remark(&mut self, remark: Remark<'_>) {
+    pub(crate) fn remark(&mut self, remark: Remark<'_>)
+        ensures places { self.new.places.items ≡ self.old.places.items }
+    {
         self.remarks.say(self.shared.now, remark);
     }
 
@@ -203,28 +249,26 @@ impl<'a> Sockets<'a> {
     }
 
     // A larger number of places would only put off the same question.
-    /// Closes the connection whose head has been coming the longest, if that is a while, or else
-    /// one that says nothing.
-    fn make_place(&mut self) {
+    /// The place of the client whose head has been coming the longest, if that is a while, or else
+    /// of one that says nothing, or no place.
+    fn crowding_place(&self) -> usize {
         let oldest = self.oldest_head();
-        let place = if oldest < PLACES {
+        if oldest < PLACES {
             oldest
         } else {
-            self.idle_place()
-        };
-        let Some(Some(client)) = self.places.get(place) else {
-            return;
-        };
-        let next = client.overdue();
-        self.settle(place, next);
-        self.busy = true;
+            self.idle_place(Wanted::Place)
+        }
     }
 
-    /// The place of a client past its head that has sent and taken nothing for long, or no place.
-    fn idle_place(&self) -> usize {
-        let time = self.long_ago();
+    /// The place of the first client that holds what is wanted, and has sent and taken nothing for
+    /// long, or no place.
+    fn idle_place(&self, wanted: Wanted) -> usize {
+        let time = self
+            .shared
+            .now
+            .saturating_sub(Duration::from_secs(IDLE_SECONDS));
         let idle = self.places.iter().position(|place| match place {
-            Some(client) => client.is_idle_since(time),
+            Some(client) => client.is_idle_since(wanted, time),
             None => false,
         });
         idle.unwrap_or(PLACES)
@@ -246,39 +290,6 @@ impl<'a> Sockets<'a> {
             }
         }
         oldest
-    }
-
-    /// Closes a connection that holds memory for its request and has sent nothing for long.
-    fn make_room(&mut self) {
-        let time = self.long_ago();
-        let stalled = self.places.iter().position(|place| match place {
-            Some(client) => client.stalls_since(time),
-            None => false,
-        });
-        if let Some(index) = stalled {
-            self.settle(index, Next::ReadFailed);
-            self.busy = true;
-        }
-    }
-
-    /// Closes a connection that has taken nothing of its answer for long.
-    fn make_room_for_answers(&mut self) {
-        let time = self.long_ago();
-        let left = self.places.iter().position(|place| match place {
-            Some(client) => client.leaves_since(time),
-            None => false,
-        });
-        if let Some(index) = left {
-            self.settle(index, Next::WriteFailed);
-            self.busy = true;
-        }
-    }
-
-    /// A client that has been idle since then has been so for long.
-    fn long_ago(&self) -> Duration {
-        self.shared
-            .now
-            .saturating_sub(Duration::from_secs(IDLE_SECONDS))
     }
 
     /// How long nothing is to be done unless something comes.
@@ -308,7 +319,9 @@ impl<'a> Sockets<'a> {
     }
 
     /// Waits until something comes or a time is over, and notes what may be ready.
-    fn wait(&mut self) -> io::Result<()> {
+    fn wait(&mut self) -> io::Result<()>
+        ensures given { AreNotGiven self.old.places.items self.new.places.items }
+    {
         let pause = self.pause();
         let begun = self.start.elapsed(self.rt)?;
         self.poll.poll(&mut self.events, Some(pause))?;
@@ -319,21 +332,16 @@ impl<'a> Sockets<'a> {
                 self.remarks.count_left_out();
             }
         }
-        for event in self.events.iter() {
-            match self.places.get_mut(event.token().0) {
-                Some(Some(client)) => client.wake(
-                    event.is_readable() || event.is_error() || event.is_read_closed(),
-                    event.is_writable() || event.is_error() || event.is_write_closed(),
-                ),
-                Some(None) => {}
-                None => self.waiting = true,
-            }
+        if wake_all(&mut self.places, &self.events) {
+            self.waiting = true;
         }
         Ok(())
     }
 
     /// Accepts the connections that wait, as long as there is a place.
-    fn accept(&mut self) {
+    fn accept(&mut self)
+        ensures given { AreNotGiven self.old.places.items self.new.places.items }
+    {
         for _ in 0..PLACES {
             if !self.can_accept() || self.shared.now < self.accepts_from {
                 return;
@@ -355,7 +363,9 @@ impl<'a> Sockets<'a> {
 
     /// Notes that a connection was not accepted. The next is accepted a little later: there may be
     /// a file for it once a client has gone. Without any client it counts as one.
-    fn note_failure(&mut self, error: &io::Error) {
+    fn note_failure(&mut self, error: &io::Error)
+        ensures places { self.new.places.items ≡ self.old.places.items }
+    {
         self.is_refused = true;
         if self.count == 0 {
             self.left = self.left.saturating_sub(1);
@@ -369,19 +379,31 @@ impl<'a> Sockets<'a> {
     }
 
     /// Accepts one connection, for which there is a place.
-    fn accept_one(&mut self) -> io::Result<()> {
+    fn accept_one(&mut self) -> io::Result<()>
+        ensures given { AreNotGiven self.old.places.items self.new.places.items }
+    {
         let (mut stream, _) = self.listener.accept()?;
         let index = self.free_place();
         let both = Interest::READABLE | Interest::WRITABLE;
         self.poll
             .registry()
             .register(&mut stream, Token(index), both)?;
-        if let Some(place) = self.places.get_mut(index) {
-            *place = Some(Client::new(self.shared.alloc, stream, self.shared.now));
+        if self.fill(index, stream) {
             self.count = self.count.saturating_add(1);
         }
         self.from = index.saturating_add(1);
         Ok(())
+    }
+
+    /// Lets a client that has just connected have this place, if there is one.
+    fn fill(&mut self, index: usize, stream: TcpStream) -> bool
+        ensures given { AreNotGiven self.old.places.items self.new.places.items }
+    {
+        let client = Client::new(self.shared.alloc, stream, self.shared.now);
+        match self.places.get_mut(index) {
+            Some(place) => fill(place, client),
+            None => false,
+        }
     }
 
     /// A free place: the first after that of the client that came last, so that who comes later is
@@ -396,7 +418,9 @@ impl<'a> Sockets<'a> {
         first.unwrap_or(PLACES)
     }
 
-    fn step_all(&mut self) {
+    fn step_all(&mut self)
+        ensures given { AreNotGiven self.old.places.items self.new.places.items }
+    {
         self.busy = false;
         self.shared.is_short = false;
         for index in 0..PLACES {
@@ -406,15 +430,19 @@ impl<'a> Sockets<'a> {
     }
 
     /// The steps of the client at this place.
-    fn step(&mut self, index: usize) -> Next {
+    fn step(&mut self, index: usize) -> Next
+        ensures given { AreNotGiven self.old.places.items self.new.places.items }
+    {
         match self.places.get_mut(index) {
-            Some(Some(client)) => client.steps(&mut self.shared),
-            _ => Next::Wait,
+            Some(place) => steps(place, &mut self.shared),
+            None => Next::Wait,
         }
     }
 
     /// Does with the client at this place what is to be done.
-    fn settle(&mut self, index: usize, next: Next) {
+    fn settle(&mut self, index: usize, next: Next)
+        ensures given { AreNotGiven self.old.places.items self.new.places.items }
+    {
         match next {
             Next::Again => self.busy = true,
             Next::Wait => {}
@@ -425,6 +453,10 @@ impl<'a> Sockets<'a> {
                 let _ = self.remove(index);
                 self.remark(Remark::NotRead);
             }
+            Next::Unanswered => {
+                let _ = self.remove(index);
+                self.remark(Remark::NotAnswered);
+            }
             Next::WriteFailed => {
                 let code = self.remove(index);
                 self.remark(Remark::NotWritten(code));
@@ -432,13 +464,22 @@ impl<'a> Sockets<'a> {
         }
     }
 
+    /// Frees this place, and gives the client that had it.
+    fn vacate(&mut self, index: usize) -> Option<Client>
+        ensures given { AreNotGiven self.old.places.items self.new.places.items }
+    {
+        match self.places.get_mut(index) {
+            Some(place) => vacate(place),
+            None => None,
+        }
+    }
+
     /// Closes the connection of the client at this place. Gives the status of its answer, or 0 if
     /// it had none.
-    fn remove(&mut self, index: usize) -> u16 {
-        let Some(place) = self.places.get_mut(index) else {
-            return 0;
-        };
-        let Some(mut client) = place.take() else {
+    fn remove(&mut self, index: usize) -> u16
+        ensures given { AreNotGiven self.old.places.items self.new.places.items }
+    {
+        let Some(mut client) = self.vacate(index) else {
             return 0;
         };
         if client.release(&mut self.shared) {
@@ -450,11 +491,103 @@ impl<'a> Sockets<'a> {
     }
 
     /// Gives back what the client at this place holds of the room for requests.
-    fn release(&mut self, index: usize) {
-        if let Some(Some(client)) = self.places.get_mut(index) {
-            if client.release(&mut self.shared) {
-                self.busy = true;
-            }
+    fn release(&mut self, index: usize)
+        ensures given { AreNotGiven self.old.places.items self.new.places.items }
+    {
+        if self.release_room(index) {
+            self.busy = true;
         }
+    }
+
+    /// Gives it back, and says whether that is anything.
+    fn release_room(&mut self, index: usize) -> bool
+        ensures given { AreNotGiven self.old.places.items self.new.places.items }
+    {
+        match self.places.get_mut(index) {
+            Some(place) => release(place, &mut self.shared),
+            None => false,
+        }
+    }
+}
+
+/// Lets a client that has just connected have a place.
+fn fill(place: &mut Option<Client>, client: Client) -> bool
+    requires opened { client.connection ≡ opened }
+    ensures given { IsNotGiven (given_in place.old) (given_in place.new) }
+{
+    *place = Some(client);
+    true
+}
+
+/// Frees a place, and gives the client that had it.
+fn vacate(place: &mut Option<Client>) -> Option<Client>
+    ensures given { IsNotGiven (given_in place.old) (given_in place.new) }
+{
+    place.take()
+}
+
+/// Says of each socket that it may be ready, if an event says so. Says whether the port may be.
+fn wake_all(places: &mut Vec<Option<Client>>, events: &Events<Global>) -> bool
+    ensures given { AreNotGiven places.old.items places.new.items }
+{
+    let mut waiting = false;
+    for event in events.iter() {
+        if !wake_one(places, event) {
+            waiting = true;
+        }
+    }
+    waiting
+}
+
+/// Says of the socket of this event that it may be ready, if it is a client's. Says whether it is.
+fn wake_one(places: &mut Vec<Option<Client>>, event: &Event) -> bool
+    ensures given { AreNotGiven places.old.items places.new.items }
+{
+    match places.get_mut(event.token().0) {
+        Some(place) => wake(place, event),
+        None => false,
+    }
+}
+
+/// Says that the socket of the client at a place may be ready, as this event says.
+fn wake(place: &mut Option<Client>, event: &Event) -> bool
+    ensures given { IsNotGiven (given_in place.old) (given_in place.new) }
+{
+    if let Some(client) = place {
+        client.wake(
+            event.is_readable() || event.is_error() || event.is_read_closed(),
+            event.is_writable() || event.is_error() || event.is_write_closed(),
+        );
+    }
+    true
+}
+
+/// Notes the status of the answer of the client at a place, and how many bytes it has.
+fn note(place: &mut Option<Client>, shared: &mut Shared<'_>, code: u16, length: usize)
+    ensures given { IsNotGiven (given_in place.old) (given_in place.new) }
+{
+    if let Some(client) = place {
+        client.note(shared, code, length);
+    }
+}
+
+/// The steps of the client at a place.
+fn steps(place: &mut Option<Client>, shared: &mut Shared<'_>) -> Next
+    ensures given { IsNotGiven (given_in place.old) (given_in place.new) }
+{
+    match place {
+        Some(client) => client.steps(shared),
+        None => Next::Wait,
+    }
+}
+
+/// Gives back what the client at a place holds of the room for requests, and says whether that is
+/// anything.
+fn release(place: &mut Option<Client>, shared: &mut Shared<'_>) -> bool
+    ensures given { IsNotGiven (given_in place.old) (given_in place.new) }
+{
+    match place {
+        Some(client) => client.release(shared),
+        None => false,
     }
 }
