@@ -8,7 +8,7 @@ use std::alloc::{AllocError, Global};
 use std::io::{BufRead, Read, Write};
 use wb_api::{Routes, Served, serve_one};
 use wb_archive::ArchList;
-use wb_daemon::{Lists, run_lines};
+use wb_daemon::{RunLists, run_lines};
 use wb_office::{Office, Outcome};
 use wb_states::Command;
 use wb_step::CarryOut;
@@ -62,7 +62,7 @@ impl TrialOffice {
     }
 
     /// Answers lines, and gives the status of the run.
-    pub(crate) fn answer_lines<R: Read + Drop, W: Write + Drop, L: Lists>(
+    pub(crate) fn answer_lines<R: Read + Drop, W: Write + Drop, L: RunLists>(
         &mut self,
         alloc: Global,
         reader: &mut WatchedReader<R>,

@@ -9,7 +9,8 @@ use std::alloc::{AllocError, Global};
 use std::fs;
 use std::io::{self, BufReader, Read};
 use std::rt::Files;
-use wb_daemon::{Lists, Message};
+use wb_daemon::{Message, RunLists};
+use wb_lists::Lists;
 
 /// After how many bytes of a long list it is said again how far it is read.
 const REPORTED_BYTES: u64 = 16_000_000;
@@ -53,19 +54,8 @@ impl<'a, F: Files + Eprint> Lists for FileLists<'a, F> {
     ) -> Result<Option<BufReader<FileList<'a, F>>>, AllocError> {
         match fs::open(self.rt, name) {
             Ok(file) => {
-                let size = if self.is_watched {
-                    size_of_long(self.rt, name)
-                } else {
-                    None
-                };
-                let list = FileList {
-                    rt: self.rt,
-                    name: String::from_str(alloc, name)?,
-                    file,
-                    size,
-                    read: 0,
-                    reported: 0,
-                };
+                let name = String::from_str(alloc, name)?;
+                let list = FileList::new(self.rt, name, file, self.is_watched);
                 Ok(Some(BufReader::new(alloc, list).ok().ok_or(AllocError)?))
             }
             Err(error) => {
@@ -77,7 +67,9 @@ impl<'a, F: Files + Eprint> Lists for FileLists<'a, F> {
             }
         }
     }
+}
 
+impl<'a, F: Files + Eprint> RunLists for FileLists<'a, F> {
     // A report is read past its buffer, in which there is nothing: that the read failed is reported by whoever asked for it.
     fn read(list: &mut BufReader<FileList<'a, F>>, room: &mut [u8]) -> io::Result<usize> {
         list.get_mut().read_on(room)
@@ -103,6 +95,24 @@ pub(crate) struct FileList<'a, F: Files> {
 }
 
 impl<'a, F: Files + Eprint> FileList<'a, F> {
+    /// The file that was opened by this name, of which nothing was read. How far it is read is said
+    /// only if a person watches.
+    pub(crate) fn new(rt: &'a F, name: String, file: F::File, is_watched: bool) -> Self {
+        let size = if is_watched {
+            size_of_long(rt, name.as_str())
+        } else {
+            None
+        };
+        FileList {
+            rt,
+            name,
+            file,
+            size,
+            read: 0,
+            reported: 0,
+        }
+    }
+
     /// Reads on, and says of the first bytes if they are those of a compressed file: what follows is no text then.
     fn read_on(&mut self, room: &mut [u8]) -> io::Result<usize>
         ensures bound { IfOk result (λ count. IsPrefixLen count room.new) }

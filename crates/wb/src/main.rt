@@ -6,6 +6,7 @@ mod compression;
 mod explained;
 mod files;
 mod first_page;
+mod folder;
 mod help;
 mod journal;
 mod leftovers;
@@ -86,12 +87,14 @@ fn start_with(rt: &HostRuntime, words: &[&str]) -> u8 {
                 port,
                 requests,
                 journal,
+                lists,
             },
         ) => match serve::listen(rt, port) {
             Some(listener) => {
                 let service = Service {
                     listener: &listener,
                     requests,
+                    lists,
                 };
                 open_for(rt, store, Work::Serve { service, journal })
             }
@@ -130,11 +133,13 @@ pub(crate) enum Work<'a> {
     },
 }
 
-/// Where requests come in, and how many connections are served; without a number, all until the program is ended.
+/// Where requests come in, and how many connections are served; without a number, all until the
+/// program is ended. And the folder of the lists that a request may merge, if there is one.
 #[derive(Clone, Copy)]
 pub(crate) struct Service<'a> {
     listener: &'a TcpListener,
     requests: Option<u32>,
+    lists: Option<&'a str>,
 }
 
 /// Has an office do its work, over the tables in the file if one is named, and otherwise over tables in memory.

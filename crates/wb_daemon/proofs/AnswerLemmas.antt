@@ -30,7 +30,8 @@ use Rattle.wb_api.proofs.ExchangeLemmas.{found-formed, plain-query}
 use Rattle.wb_api.proofs.ResponseLemmas.{memory-refusal, said-as}
 use Rattle.deb_text.specs.Lines.{words_in, is_blank_line}
 use Rattle.wb_streams.specs.Line.{is_long, with_line_feed}
-use Rattle.wb_daemon.specs.Lists.{MayRead, MayReadReport, MayReadLess, LacksReport}
+use Rattle.wb_lists.specs.Lists.{MayRead, MayReadLess}
+use Rattle.wb_daemon.specs.Reports.{MayReadReport, LacksReport}
 use Rattle.wb_step.specs.Offices.{Failed, Standing, Open, Shut}
 use Rattle.wb_api.specs.Responses.{command_response, found_response, IsFoundAnswer, IsRefusal, IsRefusedByStore, memory_response, query_response, refusal_response, reply_response, Response}
 use Rattle.wb_daemon.specs.Run.{Asked, IsInvocationResponse, IsLineResponse, IsRefused, IsResponse, IsSaid, InvokesAs, Invokes, IsResponseOfKind, LineKind, Blank, Fault, Request, asked_by, kind_of_line, kind_of_invocation, invocation_of_line, line_fault_response, needs_memory, on_line}
@@ -42,8 +43,9 @@ use Rattle.wb_daemon.specs.declared.message.Cause.TheVariants as why
 use Rattle.wb_daemon.specs.declared.run.Turn.{Turn}
 use Rattle.wb_daemon.specs.declared.run.Turn.TheVariants.{More, End, Stop}
 use Rattle.wb_streams.proofs.LineLemmas.{Appends-same}
-use Rattle.wb_daemon.proofs.ListLemmas.{MayReadMerge-more, LacksMerge-more, LacksReport-more}
-use Rattle.wb_daemon.proofs.OpenedLemmas.{IsMergeAs-more}
+use Rattle.wb_lists.proofs.ListLemmas.{MayReadMerge-more, LacksMerge-more}
+use Rattle.wb_daemon.proofs.ReportLemmas.{LacksReport-more}
+use Rattle.wb_lists.proofs.OpenedLemmas.{IsMergeAs-more}
 
 -- ---- the kind of a line
 

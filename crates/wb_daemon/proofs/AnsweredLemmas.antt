@@ -18,7 +18,7 @@ use Rattle.wb_api.proofs.OneLineLemmas.{reply_text-one, refusal_text-one}
 use Rattle.wb_api.proofs.QueryLineLemmas.{query_text-one}
 use Rattle.wb_daemon.specs.Answered.{HasLines, is_answered}
 use Rattle.wb_streams.specs.Line.{is_long, with_line_feed}
-use Rattle.wb_daemon.specs.Lists.{MayRead}
+use Rattle.wb_lists.specs.Lists.{MayRead}
 use Rattle.wb_api.specs.Responses.{command_response, found_response, query_response, reply_response, Response}
 use Rattle.wb_daemon.specs.Run.{Fault, Runs, IsLineResponse, IsInvocationResponse, IsResponseOfKind, Blank, file_fault_response, invocation_of_line, kind_of_line, kind_of_invocation, on_line}
 

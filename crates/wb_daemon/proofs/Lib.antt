@@ -1,8 +1,7 @@
 pub mod AnswerLemmas
 pub mod AnsweredLemmas
-pub mod ListLemmas
-pub mod OpenedLemmas
 pub mod ReplayedLemmas
+pub mod ReportLemmas
 pub mod RunLemmas
 pub mod SingleLemmas
 pub mod TellLemmas

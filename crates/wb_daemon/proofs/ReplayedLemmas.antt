@@ -12,7 +12,7 @@ use Rattle.wb_step.specs.Step.{step}
 use Rattle.wb_words.specs.declared.words.Invocation.{Invocation}
 use Rattle.wb_words.specs.declared.words.Invocation.TheVariants.{Command as invocation_Command, Merge as invocation_Merge, Query as invocation_Query, Report as invocation_Report}
 use Rattle.wb_streams.specs.Line.{ended_in, input_lines}
-use Rattle.wb_daemon.specs.Lists.{MayRead}
+use Rattle.wb_lists.specs.Lists.{MayRead}
 use Rattle.wb_states.specs.Queries.{answer_of}
 use Rattle.wb_states.specs.declared.query.Answer.{Answer}
 use Rattle.wb_states.specs.declared.query.Query.{Query}
@@ -22,7 +22,7 @@ use Rattle.wb_api.specs.Responses.{command_response, found_response, IsRefusedBy
 use Rattle.wb_daemon.specs.Run.{Asked, Request, InvokesAs, Invokes, EndsInput, Fault, LineKind, LineInvokes, Runs, IsInvocationResponse, IsLineResponse, IsRefused, IsResponse, IsResponseOfKind, IsSaid, Blank, RunStopsFor, StopsInLine, asked_by, file_fault_response, followed, kind_of_line, no_response, on_line}
 use Rattle.wb_daemon.specs.declared.message.Cause.{Cause}
 use Rattle.wb_daemon.specs.declared.message.Cause.TheVariants as why
-use Rattle.wb_daemon.proofs.OpenedLemmas.{merge-command}
+use Rattle.wb_lists.proofs.OpenedLemmas.{merge-command}
 use Rattle.wb_daemon.proofs.RunLemmas.{Runs-snoc, max_assoc, response-same}
 
 answer_response-machine : (name : List ℕ) (result : Result Reply Refusal) (after : Machine) → (reply_response on_line name result after).machine ≡ after

@@ -13,7 +13,7 @@ use Rattle.deb_text.proofs.ListLemmas.{slice_split-run, slice_split-end}
 use Rattle.deb_text.specs.Lines.{is_line_feed, IsOneLine}
 use Rattle.wb_streams.specs.Line.{ended_in, is_long, input_lines, line_limit, through_long, with_line_feed, with_line_feeds}
 use Rattle.wb_daemon.specs.Limits.{lines_limit, AreWithinLimit}
-use Rattle.wb_daemon.specs.Lists.{MayRead, IsAllOf}
+use Rattle.wb_lists.specs.Lists.{MayRead, IsAllOf}
 use Rattle.wb_step.specs.Offices.{Standing, Open}
 use Rattle.wb_api.specs.Responses.{Response}
 use Rattle.wb_daemon.specs.Run.{IsLineResponse, Runs, EndsInput, FailsFor, StopsAfter, StopsBeforeReply, StopsBetween, RunStopsFor, StopsWithin, WereActedOn, asked_by, followed, no_response}

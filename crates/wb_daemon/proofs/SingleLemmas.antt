@@ -2,7 +2,7 @@
 use Rattle.std.proofs.Common.{ℕ, List, Option, inl, inr, refl, sym, subst}
 use Rattle.wb_states.specs.Machine.{Machine}
 use Rattle.wb_step.specs.Offices.{Standing, IsSoOfEach}
-use Rattle.wb_daemon.specs.Lists.{MayRead}
+use Rattle.wb_lists.specs.Lists.{MayRead}
 use Rattle.wb_daemon.specs.Single.{LeavesStep, asked_in}
 use Rattle.wb_daemon.specs.Turn.{Answers, StopsAt}
 use Rattle.wb_daemon.specs.declared.message.Cause.{Cause}

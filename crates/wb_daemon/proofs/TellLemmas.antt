@@ -16,17 +16,17 @@ use Rattle.wb_step.specs.Step.{step}
 use Rattle.wb_step.proofs.CountedLemmas.{step-accepted}
 use Rattle.wb_step.proofs.OfficeLemmas.{is_of_store-cases, refusal-cases, step-repeats}
 use Rattle.wb_words.specs.declared.words.Invocation.TheVariants.{Merge as invocation_Merge}
-use Rattle.wb_words.specs.declared.words.PartNames.{PartNames}
+use Rattle.wb_lists.specs.declared.names.PartNames.{PartNames}
 use Rattle.wb_api.specs.Encoding.{is_plain}
 use Rattle.wb_archive.specs.Readers.{IsMergeOf}
-use Rattle.wb_daemon.specs.declared.lists.MergeLists.{MergeLists}
-use Rattle.wb_daemon.specs.Lists.{MayRead, MayReadMerge, OpensMerge}
+use Rattle.wb_lists.specs.declared.lists.MergeLists.{MergeLists}
+use Rattle.wb_lists.specs.Lists.{MayRead, MayReadMerge, OpensMerge}
 use Rattle.wb_api.specs.Responses.{IsRefusedByStore, memory_response, refusal_response, reply_response}
 use Rattle.wb_daemon.specs.Run.{on_line}
 use Rattle.wb_daemon.specs.Turn.{response_of_answer, IsCommandResponseOrMemory, IsInvocationResponseOrMemory, SaysEver, Tells}
 use Rattle.wb_daemon.specs.declared.answer.LineAnswer.{LineAnswer}
 use Rattle.wb_daemon.proofs.AnswerLemmas.{refused-response}
-use Rattle.wb_daemon.proofs.OpenedLemmas.{merge-command, opened-merge}
+use Rattle.wb_lists.proofs.OpenedLemmas.{merge-command, opened-merge}
 
 -- the refusal of an office that is closed, or whose store failed, is told
 pub tells-store : (name : List ℕ) (is_counted : Bool) (answered : Result Reply Refusal) (answer : LineAnswer) → Tells name is_counted answered answer → answer.stops ≡ true

@@ -1,7 +1,7 @@
 pub mod Answered
 pub mod Limits
-pub mod Lists
 pub mod Replays
+pub mod Reports
 pub mod Run
 pub mod Single
 pub mod Turn

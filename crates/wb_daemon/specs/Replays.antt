@@ -4,13 +4,13 @@ use Rattle.wb_states.specs.Machine.{Machine}
 use Rattle.wb_states.specs.declared.command.Command.{Command}
 use Rattle.wb_step.specs.Replay.{replay}
 use Rattle.wb_step.specs.Step.{step}
-use Rattle.wb_daemon.specs.Lists.{MayRead}
+use Rattle.wb_lists.specs.Lists.{MayRead}
 use Rattle.wb_step.specs.Offices.{Standing, Open}
 use Rattle.wb_states.specs.declared.query.Query.{Query}
 use Rattle.wb_api.specs.Responses.{command_response, memory_response, query_response, Response}
 use Rattle.wb_daemon.specs.Run.{LineKind, LineInvokes, IsMergeResponse, IsRefused, WereActedOn, Request, asked_by, line_fault_response, file_fault_response, followed, kind_of_line, no_response, on_line}
 use Rattle.wb_words.specs.declared.words.Invocation.TheVariants.{Merge as invocation_Merge, Query as invocation_Query}
-use Rattle.wb_words.specs.declared.words.PartNames.{PartNames}
+use Rattle.wb_lists.specs.declared.names.PartNames.{PartNames}
 
 -- nothing is carried out for a line: it is blank, or at fault, or a file of it is at fault, or there is no memory for it, or it asks a query
 abbrev pub IsResponseWithoutReply : Machine → List ℕ → Response → Type 0

@@ -5,21 +5,20 @@ use Rattle.std.specs.Str.{is_utf8}
 use Rattle.std.specs.Io.KnownBytes.{Appends, Consumes, IsAtEnd}
 use Rattle.wb_states.specs.Machine.{Machine}
 use Rattle.wb_states.specs.declared.command.Command.{Command}
-use Rattle.wb_states.specs.declared.command.Part.{Part}
 use Rattle.wb_states.specs.declared.query.Query.{Query}
 use Rattle.wb_states.specs.declared.refusal.Refusal.TheVariants.{Store}
 use Rattle.wb_step.specs.Step.{Outcome}
-use Rattle.wb_archive.specs.Readers.{IsMergeOfTexts, IsOfRead}
 use Rattle.wb_words.specs.Words.{invocation_in}
 use Rattle.wb_words.specs.declared.words.Invocation.{Invocation}
 use Rattle.wb_words.specs.declared.words.Invocation.TheVariants.{Command as invocation_Command, Merge as invocation_Merge, Query as invocation_Query, Report as invocation_Report}
-use Rattle.wb_words.specs.declared.words.PartNames.{PartNames}
+use Rattle.wb_lists.specs.declared.names.PartNames.{PartNames}
 use Rattle.wb_api.specs.Encoding.{line_fault_text, file_fault_text}
 use Rattle.wb_api.specs.Responses.{Form, IsRefusedByStore, Response, command_response, memory_response, query_response, reply_response}
 use Rattle.deb_text.specs.Lines.{words_in, is_blank_line}
 use Rattle.wb_streams.specs.Line.{is_long, input_lines, ended_in, with_line_feed}
 use Rattle.wb_daemon.specs.Limits.{lines_limit, AreWithinLimit}
-use Rattle.wb_daemon.specs.Lists.{MayRead, MayReadMerge, MayReadParts, MayReadReport, IsAllOf, LacksMerge, LacksReport}
+use Rattle.wb_lists.specs.Lists.{MayRead, MayReadMerge, IsAllOf, IsMergeAs, LacksMerge}
+use Rattle.wb_daemon.specs.Reports.{MayReadReport, LacksReport}
 use Rattle.wb_step.specs.Offices.{Accepts, Standing, Open, InDoubt, Failed}
 use Rattle.wb_streams.specs.Streams.{Stream}
 use Rattle.wb_daemon.specs.declared.message.Cause.{Cause}
@@ -75,14 +74,6 @@ abbrev pub IsInvocationRefused : MayRead → Machine → Invocation → Response
 IsInvocationRefused may_read before invocation response standing =
     ((query : Query) × (invocation ≡ invocation_Query query) × IsRefusedByStore on_line before Failed response standing)
     ⊎ ((command : Command) × InvokesAs may_read invocation command × IsRefusedByStore on_line before (InDoubt command) response standing)
-
--- a merge of the lists that a line names came to this: that of bytes that they may be read as, of which some could not be read on
-pub record IsMergeAs (may_read : MayRead) (sources : List ℕ) (names : List PartNames) (machine : Machine) (outcome : Outcome) : Type 0 where
-  pub text : List ℕ
-  pub reads : may_read.reads sources text
-  pub parts : List Part
-  pub are : MayReadParts may_read names parts
-  pub comes : IsMergeOfTexts IsOfRead (λ _. IsOfRead) text parts machine outcome
 
 -- what may be said to a merge of the lists that a line names, once they were opened
 abbrev pub IsMergeResponse : MayRead → List ℕ → List PartNames → Machine → Response → Type 0

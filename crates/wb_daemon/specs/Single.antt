@@ -8,7 +8,7 @@ use Rattle.wb_words.specs.Arguments.{joined}
 use Rattle.wb_words.specs.Words.{invocation_in}
 use Rattle.wb_streams.specs.Line.{is_long}
 use Rattle.wb_streams.specs.Streams.{Flags, Stream}
-use Rattle.wb_daemon.specs.Lists.{MayRead}
+use Rattle.wb_lists.specs.Lists.{MayRead}
 use Rattle.wb_daemon.specs.Run.{Asked, Fault, Invokes, LineKind, kind_of_invocation}
 use Rattle.wb_daemon.specs.Turn.{Answers, StopsAt, fails_to_write}
 use Rattle.wb_daemon.specs.declared.message.Cause.{Cause}

@@ -19,7 +19,7 @@ use Rattle.wb_api.specs.Memory.{MayLackMemory}
 use Rattle.deb_text.specs.Lines.{IsOneLine}
 use Rattle.wb_streams.specs.Line.{is_long, with_line_feed}
 use Rattle.wb_streams.specs.Streams.{AppendsFront}
-use Rattle.wb_daemon.specs.Lists.{MayRead}
+use Rattle.wb_lists.specs.Lists.{MayRead}
 use Rattle.wb_step.specs.Offices.{Accepts, Standing, Open}
 use Rattle.wb_api.specs.Responses.{command_response, memory_response, query_response, refusal_response, reply_response, Response}
 use Rattle.wb_daemon.specs.Run.{Asked, Fault, Request, file_fault_response, IsInvocationResponse, IsRefused, IsResponse, IsSaid, Invokes, asked_by, EndsInput, RunStopsFor, on_line}

@@ -1,6 +1,6 @@
 //! The answer to what was asked, before it is written.
 ghost use Rattle.std.specs.Prelude.{◌≡◌, ◌≤◌, IfSome, IsOk, None, Some, Ok, false, true};
-ghost use Rattle.wb_daemon.specs.Lists.{MayReadLess};
+ghost use Rattle.wb_lists.specs.Lists.{MayReadLess};
 ghost use Rattle.wb_step.specs.Offices.{Accepts, Failed, InDoubt, Leads, Reaches};
 ghost use Rattle.wb_api.specs.Responses.{IsFoundAnswer, IsRefusedByStore, memory_response};
 ghost use Rattle.wb_daemon.specs.Run.{file_fault_response, line_fault_response, Asked, Invokes, InvokesAs, IsInvocationRefused, on_line};
@@ -12,16 +12,18 @@ ghost use Rattle.wb_daemon.specs.Turn.{is_refused_by_store, IsMadeResponse, IsQu
 ghost use Rattle.wb_words.specs.declared.fault.WordsFault.TheVariants.{NoCommand, Memory};
 ghost use Rattle.wb_words.specs.declared.words.Invocation.TheVariants.{Merge as invocation_Merge};
 
-use crate::lists::{Lists, MergeLists, lists_of, report_of};
+use crate::lists::RunLists;
+use crate::report::report_of;
 use crate::status::{ACCEPTED, FILE_FAULT, LINE_FAULT, REFUSED};
 use deb_text::Text;
 use std::alloc::{AllocError, Global};
 use std::borrow::CowStr;
 use wb_api::{file_fault_json, line_fault_json, query_json, refusal_json, reply_json};
 use wb_archive::MergeFrom;
+use wb_lists::{MergeLists, PartNames, lists_of};
 use wb_states::{Answer, Command, Query, Refusal, Reply};
 use wb_step::CarryOut;
-use wb_words::{Invocation, PartNames, WordsFault};
+use wb_words::{Invocation, WordsFault};
 
 /// What is said to what was asked, without its line feed, its status, and whether the run stops after it, since
 /// the store failed or the office is closed.
@@ -189,7 +191,7 @@ fn answer_made<O: CarryOut>(
 
 /// The answer to a merge of the lists of these names. They are opened first, in their order, and nothing is asked of the
 /// office if one of them cannot be opened. It is `None` if the merge was accepted and there is no memory for the reply.
-fn answer_merge<O: MergeFrom, L: Lists>(
+fn answer_merge<O: MergeFrom, L: RunLists>(
     alloc: Global,
     office: &mut O,
     lists: &mut L,
@@ -228,7 +230,7 @@ fn answer_merge<O: MergeFrom, L: Lists>(
 /// The answer to what words ask for. The lists of a merge are opened first, and the file of a report is read, and nothing is
 /// asked of the office if one of them is at fault. It is `None` if the command was accepted and there is no memory
 /// for the reply.
-fn answer_invocation<O: MergeFrom, L: Lists>(
+fn answer_invocation<O: MergeFrom, L: RunLists>(
     alloc: Global,
     office: &mut O,
     lists: &mut L,
@@ -279,7 +281,7 @@ fn unread_answer(alloc: Global, fault: &WordsFault) -> LineAnswer
 
 /// The answer to words, by what they were read as. It is `None` if they asked for a command that was accepted and there is
 /// no memory for the reply.
-pub(crate) fn answer_read<O: MergeFrom, L: Lists>(
+pub(crate) fn answer_read<O: MergeFrom, L: RunLists>(
     alloc: Global,
     office: &mut O,
     lists: &mut L,

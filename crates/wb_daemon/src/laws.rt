@@ -7,7 +7,7 @@ ghost use Rattle.wb_daemon.specs.Replays.{IsReplay, IsReplayCut};
 ghost use Rattle.wb_api.specs.Responses.{Response};
 ghost use Rattle.wb_daemon.specs.Run.{Runs, StopsInLine};
 
-use crate::lists::Lists;
+use wb_lists::Lists;
 
 // So each law over lists of commands is stated once, and not again over lines. That an office stays
 // consistent is a law of `CarryOut`, without a premise on texts, since each text of a program is

@@ -6,11 +6,12 @@ pub mod laws;
 mod lists;
 mod message;
 mod read;
+mod report;
 mod run;
 mod single;
 pub mod status;
 
-pub use lists::Lists;
+pub use lists::RunLists;
 pub use message::{Cause, Message};
 pub use run::run_lines;
 pub use single::run_words;

@@ -4,12 +4,12 @@ ghost use Rattle.std.specs.Str.{is_utf8};
 ghost use Rattle.wb_words.specs.declared.fault.WordsFault.TheVariants.{Memory};
 ghost use Rattle.wb_words.specs.Arguments.{joined};
 ghost use Rattle.wb_streams.specs.Line.{is_long};
-ghost use Rattle.wb_daemon.specs.Lists.{MayReadLess};
+ghost use Rattle.wb_lists.specs.Lists.{MayReadLess};
 ghost use Rattle.wb_daemon.specs.Run.{invocation_of_line};
 ghost use Rattle.wb_daemon.specs.Turn.{IsReadAs};
 ghost use Rattle.wb_daemon.specs.Single.{asked_in};
 
-use crate::lists::Lists;
+use crate::lists::RunLists;
 use crate::message::Message;
 use std::alloc::Global;
 use wb_streams::{LINE_LIMIT, text_of, words_in};
@@ -64,7 +64,7 @@ fn is_fault(read: &Result<Invocation, WordsFault>) -> bool {
 }
 
 /// Reports why the line of this number is a line fault, if it was read as one; nothing if there is no memory for that.
-pub(crate) fn report_fault<L: Lists>(
+pub(crate) fn report_fault<L: RunLists>(
     alloc: Global,
     lists: &mut L,
     number: u64,
@@ -95,7 +95,7 @@ pub(crate) fn report_fault<L: Lists>(
 
 /// Reports why the words of a single command are a line fault, if they were read as one; nothing if there is no memory for
 /// that.
-pub(crate) fn report_words<L: Lists>(
+pub(crate) fn report_words<L: RunLists>(
     alloc: Global,
     lists: &mut L,
     words: &[&str],

@@ -1,7 +1,7 @@
 //! The run: each line of the input is answered with one line of JSON.
 ghost use Rattle.std.specs.Prelude.{◌≡◌, ◌⊎◌, ◌<◌, ◌≤◌, IfOk, IfErr, length, false};
 ghost use Rattle.wb_streams.specs.Line.{is_long, line_limit};
-ghost use Rattle.wb_daemon.specs.Lists.{MayReadLess};
+ghost use Rattle.wb_lists.specs.Lists.{MayReadLess};
 ghost use Rattle.wb_step.specs.Offices.{IsSoOfEach, Leads, Open, Reaches};
 ghost use Rattle.wb_daemon.specs.Replays.{LeavesReplay};
 ghost use Rattle.wb_daemon.specs.Run.{Asked, FailsFor, RunEndsWell, RunStops, asked_by};
@@ -10,7 +10,7 @@ ghost use Rattle.wb_daemon.specs.Turn.{Answers, HasRunStatus, HasTurnStatus, IsC
 ghost use Rattle.wb_daemon.specs.Turn.{StopsAt, Ran, Turns, cause_of_end, cause_of_turn, fails_to_write};
 
 use crate::answer::{LineAnswer, answer_read};
-use crate::lists::Lists;
+use crate::lists::RunLists;
 use crate::message::{Cause, Message};
 use crate::read::{invocation_of_line, report_fault};
 use crate::status::{ACCEPTED, LINE_FAULT, STOPPED};
@@ -69,7 +69,7 @@ fn write_answer<W: Write + Drop>(
 
 /// Acts on what words were read as, and writes what is said to it. Answers its status. The errors are `Reply`, `Write` and,
 /// after the answer was written, `Store`; a run stops there.
-pub(crate) fn answer_words<O: MergeFrom, W: Write + Drop, L: Lists>(
+pub(crate) fn answer_words<O: MergeFrom, W: Write + Drop, L: RunLists>(
     alloc: Global,
     office: &mut O,
     read: &Result<Invocation, WordsFault>,
@@ -99,7 +99,7 @@ pub(crate) fn answer_words<O: MergeFrom, W: Write + Drop, L: Lists>(
 
 /// Acts on the line of this number and writes what is said to it. Answers the status of the line. The errors
 /// are `Reply`, `Write` and, after the answer was written, `Store`; the run stops there.
-fn answer_line<O: MergeFrom, W: Write + Drop, L: Lists>(
+fn answer_line<O: MergeFrom, W: Write + Drop, L: RunLists>(
     alloc: Global,
     office: &mut O,
     number: u64,
@@ -130,7 +130,7 @@ fn answer_line<O: MergeFrom, W: Write + Drop, L: Lists>(
 }
 
 /// Reads the line of this number into the room and answers it.
-fn take_turn<O: MergeFrom, R: Read + Drop, W: Write + Drop, L: Lists>(
+fn take_turn<O: MergeFrom, R: Read + Drop, W: Write + Drop, L: RunLists>(
     alloc: Global,
     office: &mut O,
     reader: &mut WatchedReader<R>,
@@ -181,7 +181,7 @@ fn take_turn<O: MergeFrom, R: Read + Drop, W: Write + Drop, L: Lists>(
 }
 
 /// The run in a room that holds one line.
-fn run_within<O: MergeFrom, R: Read + Drop, W: Write + Drop, L: Lists>(
+fn run_within<O: MergeFrom, R: Read + Drop, W: Write + Drop, L: RunLists>(
     alloc: Global,
     office: &mut O,
     reader: &mut WatchedReader<R>,
@@ -213,7 +213,7 @@ fn run_within<O: MergeFrom, R: Read + Drop, W: Write + Drop, L: Lists>(
 }
 
 /// The run in a room of its own, for which there may be no memory.
-fn run_in_room<O: MergeFrom, R: Read + Drop, W: Write + Drop, L: Lists>(
+fn run_in_room<O: MergeFrom, R: Read + Drop, W: Write + Drop, L: RunLists>(
     alloc: Global,
     office: &mut O,
     reader: &mut WatchedReader<R>,
@@ -256,7 +256,7 @@ fn run_in_room<O: MergeFrom, R: Read + Drop, W: Write + Drop, L: Lists>(
 /// that was acted on says so; or more follows the 1000000000th line feed; or there was no memory for the
 /// room that holds a line, and nothing was read. The commands of all lines that were acted on stand; one at
 /// which the store failed is left by a crash whole or not at all (this project's own).
-pub fn run_lines<O: MergeFrom, R: Read + Drop, W: Write + Drop, L: Lists>(
+pub fn run_lines<O: MergeFrom, R: Read + Drop, W: Write + Drop, L: RunLists>(
     alloc: Global,
     office: &mut O,
     reader: &mut WatchedReader<R>,

@@ -5,7 +5,7 @@ ghost use Rattle.wb_streams.specs.Streams.{Flags};
 ghost use Rattle.wb_daemon.specs.Single.{AnswersWords, LeavesStep, StopsAtWords, asked_in};
 ghost use Rattle.wb_daemon.specs.Turn.{Answers, StopsAt, fails_to_write};
 
-use crate::lists::Lists;
+use crate::lists::RunLists;
 use crate::message::{Cause, Message};
 use crate::read::{invocation_of_words, report_words};
 use crate::run::answer_words;
@@ -17,7 +17,7 @@ use wb_streams::WatchedWriter;
 
 /// Reads the words of a single command, acts on what they ask for, and writes what is said to it. Answers its status. The
 /// errors are those of `answer_words`.
-fn answer_single<O: MergeFrom, W: Write + Drop, L: Lists>(
+fn answer_single<O: MergeFrom, W: Write + Drop, L: RunLists>(
     alloc: Global,
     office: &mut O,
     words: &[&str],
@@ -50,7 +50,7 @@ fn answer_single<O: MergeFrom, W: Write + Drop, L: Lists>(
 /// for the reply to an accepted command, and nothing of it was written; or the store failed or the office is closed, and
 /// the answer says so. The command stands then; one at which the store failed is left by a crash whole or not at all
 /// (this project's own).
-pub fn run_words<O: MergeFrom, W: Write + Drop, L: Lists>(
+pub fn run_words<O: MergeFrom, W: Write + Drop, L: RunLists>(
     alloc: Global,
     office: &mut O,
     words: &[&str],

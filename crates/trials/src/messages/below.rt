@@ -107,6 +107,7 @@ pub(crate) fn show_requests<W: Write>(output: &mut W) -> Result<()> {
         Fault::BodyTooLarge,
         Fault::BodyCut,
         Fault::BadBody,
+        Fault::NoList,
     ];
     show("Fault", &faults, output)
 }

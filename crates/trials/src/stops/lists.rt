@@ -4,7 +4,8 @@ use std::alloc::{AllocError, Global};
 use std::fs;
 use std::io::{self, BufReader, Read};
 use std::rt::Files;
-use wb_daemon::Lists;
+use wb_daemon::RunLists;
+use wb_lists::Lists;
 
 /// The lists that stand in files, whose names are paths from the working directory.
 pub(crate) struct FileLists<'a, F> {
@@ -30,7 +31,9 @@ impl<'a, F: Files> Lists for FileLists<'a, F> {
         };
         Ok(Some(BufReader::new(alloc, file).ok().ok_or(AllocError)?))
     }
+}
 
+impl<'a, F: Files> RunLists for FileLists<'a, F> {
     fn read(list: &mut BufReader<F::File>, room: &mut [u8]) -> io::Result<usize> {
         list.read(room)
     }

@@ -3,7 +3,8 @@
 use crate::reader::CutReader;
 use std::alloc::{AllocError, Global};
 use std::io::{self, BufReader, Read};
-use wb_daemon::Lists;
+use wb_daemon::RunLists;
+use wb_lists::Lists;
 
 /// Lists of which none can be opened.
 #[derive(Drop)]
@@ -19,7 +20,9 @@ impl Lists for NoLists {
     ) -> Result<Option<BufReader<CutReader<'static>>>, AllocError> {
         Ok(None)
     }
+}
 
+impl RunLists for NoLists {
     fn read(list: &mut BufReader<CutReader<'static>>, room: &mut [u8]) -> io::Result<usize> {
         list.read(room)
     }

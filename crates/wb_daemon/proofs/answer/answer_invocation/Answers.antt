@@ -2,7 +2,7 @@
 use Rattle.std.proofs.Common.{◌∙◌, refl, sym, ap, subst, inl, inr}
 use Rattle.std.proofs.lemmas.Option.{IfSome_then}
 use Rattle.wb_words.specs.declared.words.Invocation.TheVariants.{Merge as invocation_Merge}
-use Rattle.wb_daemon.specs.Lists.{MayReadReport}
+use Rattle.wb_daemon.specs.Reports.{MayReadReport}
 use Rattle.wb_daemon.specs.Run.{InvokesAs, IsInvocationRefused}
 use Rattle.wb_daemon.specs.Turn.{response_of_answer, IsInvocationResponseOrMemory}
 use Rattle.wb_daemon.proofs.AnswerLemmas.{made-command, report-response}

@@ -3,8 +3,8 @@ use Rattle.std.proofs.Common.{◌≡◌, ◌∙◌, ◌==◌, not, subst, sym, i
 use Rattle.std.proofs.lemmas.Bool.Decides.{nat_tests}
 use Rattle.std.proofs.lemmas.Option.{IfSome_then}
 use Rattle.wb_step.specs.Offices.{Shut, InDoubt}
-use Rattle.wb_daemon.specs.Lists.{LacksMerge, OpensMerge}
-use Rattle.wb_daemon.proofs.OpenedLemmas.{opened-leaves}
+use Rattle.wb_lists.specs.Lists.{LacksMerge, OpensMerge}
+use Rattle.wb_lists.proofs.OpenedLemmas.{opened-leaves}
 use Rattle.wb_daemon.proofs.TellLemmas.{lost-merge, refused-said, tells-merge, tells-store}
 use Rattle.wb_daemon.proofs.answer.answer_merge.Goals as goal
 

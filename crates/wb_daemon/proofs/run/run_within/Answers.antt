@@ -1,7 +1,7 @@
 -- The run so far, and how it ends.
 use Rattle.std.proofs.Common.{[], None, Some, refl, arith, subst}
 use Rattle.wb_daemon.proofs.AnswerLemmas.{Turns-more}
-use Rattle.wb_daemon.proofs.ListLemmas.{MayReadLess-same, MayReadLess-then}
+use Rattle.wb_lists.proofs.ListLemmas.{MayReadLess-same, MayReadLess-then}
 use Rattle.wb_daemon.proofs.RunLemmas.{FailsFor-then, so_far-start, so_far-next, ends-line, ends-nothing, stops-limit, stops-read, stops-turn}
 use Rattle.wb_step.specs.Offices.{Open, Stands}
 use Rattle.wb_daemon.specs.declared.message.Cause.TheVariants.{Lines, Read}

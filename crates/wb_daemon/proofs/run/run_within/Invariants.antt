@@ -1,6 +1,6 @@
 -- Each line that was read was answered, and no read or write failed.
 use Rattle.std.proofs.Common.{◌≤◌, None}
-use Rattle.wb_daemon.specs.Lists.{MayReadLess}
+use Rattle.wb_lists.specs.Lists.{MayReadLess}
 use Rattle.wb_step.specs.Offices.{Reaches}
 use Rattle.wb_daemon.specs.Run.{FailsFor}
 use Rattle.wb_daemon.proofs.RunLemmas.{SoFar}

@@ -1,8 +1,8 @@
 -- The bytes so far are those that were read.
 use Rattle.std.proofs.Common.{◌+◌, ◌-◌, length}
 use Rattle.std.specs.Io.KnownBytes.{Consumes}
-use Rattle.wb_daemon.specs.Lists.{list_limit}
-use Rattle.wb_daemon.proofs.lists.read_list.Given as goal
+use Rattle.wb_daemon.specs.Reports.{list_limit}
+use Rattle.wb_daemon.proofs.report.read_list.Given as goal
 
 abbrev pub invariant-loop-room : goal.invariant-loop-room
 invariant-loop-room g l = record {

@@ -1,7 +1,7 @@
 -- More bytes were read than a list may have.
 use Rattle.std.proofs.Common.{rules}
-use Rattle.wb_daemon.proofs.ListLemmas.{too_long}
-use Rattle.wb_daemon.proofs.lists.read_list.Goals as goal
+use Rattle.wb_daemon.proofs.ReportLemmas.{too_long}
+use Rattle.wb_daemon.proofs.report.read_list.Goals as goal
 
 pub returns : goal.returns
 returns g c = record {

@@ -4,8 +4,8 @@ use Rattle.std.specs.Str.{IsUtf8}
 use Rattle.std.proofs.lemmas.Bool.{false≢true}
 use Rattle.std.proofs.lemmas.Str.{IsUtf8-string_bytes}
 use Rattle.wb_states.specs.Forms.{Report}
-use Rattle.wb_daemon.specs.Lists.{MayReadList}
-use Rattle.wb_daemon.proofs.lists.report_of.Goals as goal
+use Rattle.wb_daemon.specs.Reports.{MayReadList}
+use Rattle.wb_daemon.proofs.report.report_of.Goals as goal
 
 pub returns-clause-value : goal.returns-clause-value
 returns-clause-value g c =
