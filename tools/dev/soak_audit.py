@@ -174,7 +174,7 @@ def would_answer(office: Office, one: Sent) -> tuple[int, dict[str, Any]]:
     """What the model answers, without a change of the office."""
     if not isinstance(one.body, dict):
         return asked(office, one)
-    if one.name in ("report", "add-builder"):
+    if one.name in ("report", "add-builder", "merge"):
         return asked(office.twin(), one)  # type: ignore[attr-defined]
     keys = [key for key, record in office.records.items() if touches(one, record)]
     saved, counts = {key: copy.copy(office.records[key]) for key in keys}, (office.accepted, office.handed)

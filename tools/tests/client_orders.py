@@ -30,6 +30,7 @@ REPORTS = ["built", "built", "uploaded", "uploaded", "attempted", "waits", "put-
 OPERATIONS = ["give-back"] * 4 + ["take", "take", "dep-wait", "fail", "not-for-us", "rebuild", "build-priority"]
 CHECKED = ("summary", "queue", "state", "item", "mine", "depends", "office", "archs", "builders")
 WHOLE = ("office", "archs", "builders")  # the queries without a key
+SERVED = ["--lists", "."]  # further words of a program that serves a folder with the office of these requests
 
 
 # ---- the office at its beginning
@@ -38,10 +39,12 @@ WHOLE = ("office", "archs", "builders")  # the queries without a key
 def begun(folder):
     """Makes an office of four architectures in the file `store`, of whose source packages a quarter is built. Gives the
     model of it."""
-    files = {"sources": "", "empty": ""}
+    files = {"sources": "", "fewer": "", "empty": "", "bad": "Package: aa\nArchitecture: any\n\n"}
     for at, (name, version) in enumerate(SOURCES):
-        files["sources"] += f"Package: {name}\nVersion: {version}\nArchitecture: any\nPriority: optional\n"
-        files["sources"] += f"Section: {('libs', 'devel', 'doc')[at % 3]}\nBuild-Depends: cc, libz [arm64]\n\n"
+        text = f"Package: {name}\nVersion: {version}\nArchitecture: any\nPriority: optional\n"
+        text += f"Section: {('libs', 'devel', 'doc')[at % 3]}\nBuild-Depends: cc, libz [arm64]\n\n"
+        files["sources"] += text
+        files["fewer"] += text * (at % 5 > 0)
     for arch in ARCHS:
         files[arch] = "".join(
             f"Package: {name}-bin\nSource: {name} ({version})\nVersion: {version}\nArchitecture: {arch}\n\n"
@@ -165,6 +168,11 @@ class Client:
             return "report", {"arch": arch, "text": "\n".join(pick.sample(lines, 3) + ["odd"] * (pick.random() < 0.1))}
         if number < 0.85:
             return "add-builder", {"name": f"b{pick.randrange(6, 10)}", "arch": pick.choice(ARCHS)}
+        if number < 0.86:
+            odd = [pick.choice(["s390y", "all", ARCHS[0]])] if pick.random() < 0.1 else []
+            archs = pick.sample(ARCHS, pick.choice([1, 1, 2])) + odd
+            parts = [{"arch": one, "packages": pick.choice([one if one in ARCHS else "bad", "empty"])} for one in archs]
+            return "merge", {"parts": parts, "sources": pick.choice(["sources", "sources", "fewer", "bad"])}
         word = pick.choice(CHECKED)
         words = {"state": [pick.choice(STATES)], "item": [source], "depends": [source]}.get(word, [])
         return word, [] if word in WHOLE else [builder if word == "mine" else arch, *words]

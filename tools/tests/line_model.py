@@ -11,7 +11,7 @@ import re
 from pathlib import Path
 
 from office_model import (
-    CODES, FORMS, LABEL, PRIORITIES, SECTIONS, Listed, Office, Refused, check, lines_of, order, parts_of,
+    CODES, FORMS, LABEL, PRIORITIES, SECTIONS, STATUSES, Listed, Office, Refused, check, lines_of, order, parts_of,
 )
 
 ALL_CODES = CODES | {"BadListing": 15, "RepeatedArch": 22}
@@ -283,7 +283,18 @@ class LineOffice(Office):
     def check_waits(self, text, waits):
         check(waits, "BadRelations", fault="Nothing")
 
-    # -- the commands that are given otherwise over HTTP, or not at all
+    def command(self, name, body, said):
+        """The status and the object that are answered to a command over HTTP."""
+        if name != "merge":
+            return super().command(name, body, said)
+        try:
+            parts = (f"{part['arch']}={part['packages']}" for part in body["parts"])
+            return 200, self.line_merge(body["sources"], *parts)
+        except Refused as why:
+            status = STATUSES.get(why.name, 422)
+            return status, {"code": ALL_CODES[why.name], "refused": why.name, **why.more}
+
+    # -- the commands that are given otherwise over HTTP
 
     def line_report(self, arch, name):
         check(FORMS["arch"].match(arch), "BadName")

@@ -144,16 +144,42 @@ import http.server, json, os, sys
 
 MAGIC = b"SQLite format 3\0"
 store, word = sys.argv[2:4]
+LISTS = sys.argv[sys.argv.index("--lists") + 1] if "--lists" in sys.argv else None
 
 
 class Answer(http.server.BaseHTTPRequestHandler):
-    def do_GET(self):
-        records = json.loads(open(store, "rb").read()[len(MAGIC) :] or b"{}")
-        _, _, query, word = self.path.split("/")
-        is_lost = query == "summary" and word not in records
-        self.send_response(404 if is_lost else 200)
+    def say(self, status, answer):
+        body = json.dumps(answer, separators=(",", ":")).encode()
+        self.send_response(status)
+        self.send_header("Content-Length", str(len(body)))
         self.end_headers()
-        self.wfile.write(b'{"refused":"UnknownArch"}' if is_lost else b"{}")
+        self.wfile.write(body)
+
+    def do_GET(self):
+        _, _, query, *words = self.path.split("/")
+        if not words:
+            is_known = query == "merge" and LISTS
+            return self.say(405 if is_known else 404, {"http": "WrongMethod" if is_known else "NoRoute"})
+        is_lost = query == "summary" and words[0] not in read_records()
+        self.say(404 if is_lost else 200, {"refused": "UnknownArch"} if is_lost else {})
+
+    def do_POST(self):
+        asked, records = json.loads(self.rfile.read(int(self.headers["Content-Length"]))), read_records()
+        if self.path == "/v1/report":
+            return self.say(200, {"accepted": 1, "changed": 0, "ok": "report"})
+        [part] = asked["parts"]
+        answer = merge(records, f"{LISTS}/{asked['sources']}", f"{part['arch']}={LISTS}/{part['packages']}")
+        write_records(records)
+        self.say(404 if "refused" in answer else 200, answer)
+
+
+def read_records():
+    data = open(store, "rb").read() if os.path.exists(store) else b""
+    return json.loads(data[len(MAGIC) :] or b"{}")
+
+
+def write_records(records):
+    open(store, "wb").write(MAGIC + json.dumps(records).encode())
 
 
 def names_of(path, arch):
@@ -195,11 +221,10 @@ def carry_out(records, word, first, *rest):
 
 if word == "serve":
     http.server.HTTPServer(("127.0.0.1", int(sys.argv[5])), Answer).serve_forever()
-data = open(store, "rb").read() if os.path.exists(store) else b""
-records = json.loads(data[len(MAGIC) :] or b"{}")
+records = read_records()
 refused = False
 while True:
-    open(store, "wb").write(MAGIC + json.dumps(records).encode())
+    write_records(records)
     line = sys.stdin.readline()
     if not line:
         sys.exit(refused)

@@ -45,7 +45,7 @@ TARGET_PARTS = [
 TARGET_PARTS += [b"\xc3\xa4", b"\xff", b" "]
 TARGETS = [
     b"*", b"/", b"//v1/next", b"/v1/next/", b"/V1/next", b"http://localhost/v1/next", b"/v1/item/amd64", b"/v1/item//",
-    b"/v1/mine/", b"",
+    b"/v1/mine/", b"/v1/merge", b"",
 ]
 FIELDS = [
     b"Transfer-Encoding: chunked", b"transfer-encoding: identity", b"Expect: 100-continue", b"Connection: keep-alive",

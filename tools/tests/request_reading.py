@@ -1,5 +1,5 @@
-"""A second reading of docs/HTTP.md, for tools/tests/test_requests.py: of what a request is or which fault it is, and of
-the bytes of an answer. It shares nothing with the program."""
+"""A second reading of docs/HTTP.md, for tools/tests/test_requests.py and tools/tests/test_merge_requests.py: of what a
+request is or which fault it is, and of the bytes of an answer. It shares nothing with the program."""
 import http.client
 import io
 import json
@@ -83,6 +83,7 @@ FAULTS = {
     "NoLength": 411,
 }
 FAULTS |= {"FromBrowser": 403, "BadLength": 400, "BodyTooLarge": 413, "BodyCut": 400, "BadBody": 400}
+NO_LIST = {"NoList": 404}  # of a program that is started with --lists alone
 TOKEN = rb"[A-Za-z0-9!#$%&'*+.^_`|~-]"
 
 
@@ -165,9 +166,9 @@ def is_utf8(data):
     return True
 
 
-def request_of(data):
+def request_of(data, lists=None):
     """What a request asks for: the name of a command, and its arguments; or that of a query, and its parts. The fault
-    is the first of the page."""
+    is the first of the page. With lists, the names of those that can be opened, a merge is a command too."""
     try:
         method, target, fields, length = head_of(data[:HEAD_LIMIT])
     except Unfinished:
@@ -177,6 +178,11 @@ def request_of(data):
     if target.startswith(b"/v1/") and name in FORMS:
         test(method == b"POST", "WrongMethod")
         return name, arguments_in(name, body_of(fields, data[length:]))
+    if lists is not None and target == b"/v1/merge":
+        test(method == b"POST", "WrongMethod")
+        sources, parts = merge = merge_in(body_of(fields, data[length:]))
+        test(all(name in lists for name in (sources, *(packages for _, packages in parts))), "NoList")
+        return "merge", merge
     word, *parts = name.split("/")
     test(target.startswith(b"/v1/") and QUERIES.get(word) == len(parts) and all(parts), "NoRoute")
     test(method == b"GET", "WrongMethod")
@@ -214,17 +220,37 @@ def refuse(name):
 
 def arguments_in(name, body):
     """The arguments of the command that a body gives."""
+    arguments = arguments_of(name, json_in(body))
+    test(arguments is not None, "BadBody")
+    return arguments
+
+
+def json_in(body):
+    """What a body has as JSON."""
     try:
         text = body.decode("utf-8")
         found = json.loads(
             text, parse_int=whole_of, parse_float=float_of, parse_constant=refuse, object_pairs_hook=object_of
         )
         test(depth_of(text) <= DEPTH_LIMIT and not has_half(found), "BadBody")
-        arguments = arguments_of(name, found)
     except (ValueError, RecursionError):
         raise Fault("BadBody") from None
-    test(arguments is not None, "BadBody")
-    return arguments
+    return found
+
+
+def merge_in(body):
+    """The Sources list that a body names, and its parts, each an architecture and a Packages list."""
+    found = json_in(body)
+    parts = found.get("parts") if isinstance(found, dict) else None
+    test(isinstance(parts, list) and parts and all(isinstance(part, dict) for part in parts), "BadBody")
+    sources, pairs = found.get("sources"), [(part.get("arch"), part.get("packages")) for part in parts]
+    test(all(type(arch) is str for arch, _ in pairs), "BadBody")
+    test(all(is_list_name(name) for name in (sources, *(packages for _, packages in pairs))), "BadBody")
+    return sources, pairs
+
+
+def is_list_name(name):
+    return type(name) is str and 1 <= len(name.encode()) <= 255 and "/" not in name and name[0] != "."
 
 
 def whole_of(text):

@@ -6,19 +6,22 @@ import socket
 import subprocess
 import time
 
-from harness import WAIT, WB, expect, free_port, listens
+from harness import ROOT, WAIT, WB, expect, free_port, listens
 
 
 class Server:
-    """The program, serving over the file `store` of a folder if store is set, for so many requests. What it says on
-    standard error goes to a file if one is given, and `prepare` is called in its process before it starts."""
+    """The program, serving over the file `store` of a folder if store is set, for so many requests, with these further
+    words. What it says on standard error goes to a file if one is given, and `prepare` is called in its process before
+    it starts."""
 
-    def __init__(self, folder, store="store", requests=1000000, port=None, errors=subprocess.PIPE, prepare=None):
+    def __init__(
+        self, folder, store="store", requests=1000000, port=None, errors=subprocess.PIPE, prepare=None, more=()
+    ):
         self.port = port or free_port()
         words = (
             [WB]
             + (["--store", store] if store else [])
-            + ["serve", "--port", str(self.port), "--requests", str(requests)]
+            + ["serve", "--port", str(self.port), "--requests", str(requests), *more]
         )
         pipe = subprocess.PIPE
         self.process = subprocess.Popen(
@@ -67,6 +70,16 @@ class Server:
             link.request(method, path, body)
             answer = link.getresponse()
             return answer.status, answer.read()
+
+
+def with_lists_of_page(folder):
+    """The further words of a program that serves the examples of docs/HTTP.md, with their lists in a folder."""
+    place = folder / "to-merge"
+    place.mkdir()
+    examples = (ROOT / "docs" / "HTTP.md").read_text(encoding="utf-8").split("## Examples")[1]
+    (place / "Sources").write_text(examples.split("```")[5].removeprefix("text\n"))
+    (place / "Packages-armhf").write_text("")
+    return ["--lists", str(place)]
 
 
 def received(link):

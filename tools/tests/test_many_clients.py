@@ -29,7 +29,7 @@ from client_runs import (
     shown, some,
 )
 from harness import ROOT, SEED, WAIT, Failure, answers_of, expect, expect_none, limit_files, main
-from serve_runs import Server, answer_bytes, received, request_bytes
+from serve_runs import Server, answer_bytes, received, request_bytes, with_lists_of_page
 from store_runs import rows_of
 
 MANY, KILLS = int(os.environ.get("MANY", "10000")), int(os.environ.get("KILLS", "15"))
@@ -340,6 +340,7 @@ def examples():
         path, body = words[-1].partition(":8080")[2], words[2] if "-d" in words else ""
         name = json.loads(answer).get("refused", json.loads(answer).get("http"))
         status = {None: 200, "UnknownSource": 404, "BadReport": 422, "BadName": 422, "BadBody": 400}.get(name, 409)
+        status = 404 if name == "NoList" else status
         found.append((request_bytes(path, body, method="POST" if body else "GET"), answer_bytes(status, answer)))
     return lines, found
 
@@ -349,13 +350,14 @@ def answers_cut_requests_as_whole(folder):
     answer between: both are answered as when each is alone, byte for byte."""
     lines, found = examples()
     answers_of(folder, lines)
+    more = with_lists_of_page(folder)
     other = b"GET /v1/mine/b9 HTTP/1.1\r\n\r\n"
     for cut in range(1, max(len(request) for request, _ in found)):
         place = folder / str(cut)
         place.mkdir()
         for file in folder.glob("store*"):
             shutil.copy(file, place)
-        with Server(place) as server:
+        with Server(place, more=more) as server:
             for request, answer in found:
                 with server.connect() as first, server.connect() as second:
                     second.sendall(other[: cut % len(other)])
@@ -460,7 +462,7 @@ def answers_as_one_order(folder):
     """Requests at random of 50 clients at once over an office of four architectures: the model gives each answer, in an
     order in which nothing comes before what was answered when it was sent."""
     office = client_orders.begun(folder)
-    with Server(folder) as server:
+    with Server(folder, more=client_orders.SERVED) as server:
         met = asyncio.run(client_orders.under_load(server.port, MANY, 50, SEED))
         client_orders.judge(office, met, client_orders.Looked(server))
     return client_orders.kinds(met)
@@ -470,7 +472,7 @@ def finds_orders_that_cannot_be(folder):
     """What is planted in the answers of such a load is found: a count twice, a lost command, an old answer to a query,
     another answer to a command, and a count from before the command was sent."""
     office = client_orders.begun(folder)
-    with Server(folder) as server:
+    with Server(folder, more=client_orders.SERVED) as server:
         met = asyncio.run(client_orders.under_load(server.port, 400, 20, SEED))
         looked = client_orders.Looked(server)
     accepted = sorted((one for one in met if one.accepted is not None), key=lambda one: one.accepted)
@@ -501,7 +503,7 @@ def keeps_what_was_answered(folder):
     office, chance = client_orders.begun(folder), random.Random(SEED)
     sent, stood, most = 0, 0, 0
     for number in range(KILLS):
-        with Server(folder) as server:
+        with Server(folder, more=client_orders.SERVED) as server:
 
             async def kill():
                 await asyncio.sleep(chance.uniform(0.02, 0.4))

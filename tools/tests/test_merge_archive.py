@@ -60,14 +60,14 @@ TABLE = "\npart   added  changed  kept  removed\n"
 class Porter(Trial):
     """An office that runs, and its porter, whose lists are in the folder `lists`."""
 
-    def __init__(self, folder: Path) -> None:
+    def __init__(self, folder: Path, **more: object) -> None:
         if "WB" in os.environ:
             wb = program()
         else:
             wb = folder / "wb"
             wb.write_text(WB)
             wb.chmod(0o755)
-        super().__init__(folder, wb, WAIT=20)
+        super().__init__(folder, wb, WAIT=20, **more)
         self.base, self.lists = folder, folder / "lists"
         self.lists.mkdir()
         self.put()
@@ -535,6 +535,36 @@ def brings_all_along_and_reports(folder):
             expect_status(2, office.merge(*words), message)
 
 
+def merges_without_a_stop(folder):
+    """With a folder of lists the office serves on: the same answers, lists and counts, a backup, the report after the
+    merge, and nothing is left in the folder. With --stop it is stopped."""
+    stub(folder, "dose-builddebcheck", DOSE)
+    (folder / "answer").write_text(answer([], 1))
+    with Porter(folder, LISTS=folder / "an office" / "to merge") as office:
+        place = office.settings["LISTS"]
+        keeper, process = office.keeper(), office.server()
+        done = office.merge("--dose", STATUS="0")
+        expect(expect_status(0, done).endswith(TABLE + "amd64      2        1     0        1\n"), f"it says {done}")
+        steps = ["ask which packages", "while it is served", "send 2 lines", "check the sums", "name the copy"]
+        order = [done[2].index(text) for text in steps]
+        expect(order == sorted(order) and "stop the service" not in done[2], f"the steps are {done[2]}")
+        expect((office.keeper(), office.server()) == (keeper, process), "the service was stopped")
+        expect_text(office.merged()["counts"], COUNTS, "the counts")
+        expect(len(office.saved()) == 1 and not os.listdir(place), f"{office.saved()} and {os.listdir(place)}")
+        done = office.merge("--most-removed", "0", "--force")
+        expect("amd64      0        0     3        0\n" in expect_status(0, done), f"it says {done}")
+        office.put(SOURCES[: SOURCES.index("Package: new")])
+        done = office.merge("--most-removed", "1", "--force")
+        expect_status(1, done, "the merge would remove 2 of amd64, more than 1; it was not carried out")
+        done = office.merge("--dry-run", "--force")
+        expect("would send 1 lines" in done[2] and not os.listdir(place), f"it says {done}")
+        expect((office.keeper(), office.server()) == (keeper, process), "the service was stopped")
+        done = office.merge("--stop", "--force")
+        said = expect_status(0, done, "stop the service")
+        expect("amd64      0        0     1        2\n" in said, f"it says {said}")
+        expect(office.runs() and office.server() != process, "the service was not stopped, or does not run")
+
+
 def says_that_the_office_did_not_start_again(folder):
     """With status 3; the merge was done, and is shown."""
     with Porter(folder) as office:
@@ -631,6 +661,7 @@ TESTS = [
     changes_nothing_if_the_office_fails,
     merges_architectures_in_one_stop,
     brings_all_along_and_reports,
+    merges_without_a_stop,
     says_that_the_office_did_not_start_again,
     ends_after_the_merge_if_it_gets_a_signal,
     works_alone_in_its_folder,

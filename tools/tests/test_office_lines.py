@@ -1,6 +1,6 @@
 #!/usr/bin/env python3
-"""Tests of the lines that tools/bin/office gives an office: by requests while it is served, and else by a run over its
-file. Both have to give the same bytes and the same status, and requests stop nothing.
+"""Tests of the lines and the merges that tools/bin/office gives an office: by requests while it is served, and else by
+a run over its file. Both have to give the same bytes and the same status, and requests stop nothing.
 
     tools/tests/test_office_lines.py [NAME..]     these tests, or all
 
@@ -12,12 +12,15 @@ import random
 import signal
 import subprocess
 import sys
+import time
+from pathlib import Path
 
 from harness import SEED, WAIT, call, expect, main, program
 from package_runs import OFFICE, Trial, wait_until
 from wanna_build_runs import Gate
 
 LONG = "x" * 9000
+NAMES = ("hello", "new", "tar")  # in the Sources list of the merges
 # Runs of lines, each with the status of tools/bin/office for it. REPORT and others stand for files of a folder.
 RUNS = [
     (0, ["add-arch arm64 linux arm64", "add-builder b2 arm64", "enter arm64 hello 1.0 optional devel",
@@ -44,18 +47,27 @@ RUNS = [
          "report amd64 FOLDER", "report amd64 LATIN", "nonsense", "report all NOWHERE", "item amd64 tar"]),
     (1, ["queue amd64", "x" * 65537, "merge a amd64=b", "queue amd64"]),
     (1, ["queue amd64", " " * 65536, "fail amd64 tar 1.30 " + "x" * 65516, "summary amd64"]),
+    (1, ["merge SOURCES amd64=PACKAGES", "merge SOURCES amd64=PACKAGES", "merge NOWHERE amd64=PACKAGES",
+         "merge SOURCES amd64=NOWHERE", "merge SOURCES none=PACKAGES", "merge SOURCES amd64=PACKAGES none=EMPTY",
+         "merge SOURCES=LINK amd64=EMPTY", "merge LINK amd64=EMPTY", "merge BAD amd64=PACKAGES", "merge SOURCES amd64=",
+         "merge SOURCES amd64=BAD none=BAD", "merge SOURCES amd64=PACKAGES amd64=EMPTY", "merge LATIN amd64=EMPTY",
+         "merge -- SOURCES amd64=PACKAGES", "merge -x amd64=PACKAGES", "merge SOURCES", "merge SOURCES PACKAGES",
+         "merge SOURCES Amd64=EMPTY", "merge to-merge/HERE amd64=to-merge/HERE", "queue amd64", "item amd64 new"]),
 ]  # fmt: skip
 
 
 def make_reports(folder):
     """The files that lines of RUNS name."""
+    paragraph = "Package: {0}\nVersion: 1.30\nArchitecture: {1}\nPriority: optional\nSection: misc\n\n"
     texts = {
         "REPORT": "hello 1.0 uninstallable é is \"missing\"\n\ntar 1.30 installable", "BAD": "tar 1.30\n", "EMPTY": "",
-        "LATIN": b"tar 1.30 uninstallable \xe9\n",
+        "LATIN": b"tar 1.30 uninstallable \xe9\n", "SOURCES": "".join(paragraph.format(name, "any") for name in NAMES),
+        "PACKAGES": paragraph.format("tar", "amd64"), "SOURCES=LINK": "",
     }
     for name, text in texts.items():
         (folder / name).write_bytes(text if isinstance(text, bytes) else text.encode())
     (folder / "FOLDER").mkdir()
+    (folder / "LINK").symlink_to("SOURCES")
 
 
 def given(office, lines, wanted, **options):
@@ -73,8 +85,9 @@ def offices(folder):
     for name in ("idle", "served"):
         (folder / name).mkdir()
         make_reports(folder / name)
-        found.append(Trial(folder / name))
+        found.append(Trial(folder / name, LISTS=folder / name / "to-merge"))
         found[-1].fill()
+        (folder / name / "to-merge" / "HERE").write_text("")
     found[1].do("start")
     return found
 
@@ -90,6 +103,8 @@ def answers_alike(folder):
             expect(one[0] == two[0] and one[0].endswith(b"}\n"), f"{lines[0]}: {one[0][-300:]} and {two[0][-300:]}")
             ends = [said.decode().partition(" ended with ")[2][:1] for _, said in (one, two)]
             expect(ends[0] == ends[1], f"{lines[0]}: {ends}")
+            left = os.listdir(served.settings["LISTS"])
+            expect(left == ["HERE"], f"in the folder of lists there is {left}")
         expect(served.server() == process, "another process serves")
 
 
@@ -209,6 +224,101 @@ def stops_for_what_has_no_request(folder):
         expect("would stop the service" in steps and "a merge has no request" in steps, steps)
 
 
+def lists_of(folder, count=0):
+    """The words of a merge of lists whose names no line can hold, of NAMES and so many others."""
+    make_reports(folder)
+    (folder / "the lists").mkdir()
+    text = (folder / "SOURCES").read_text() + "".join(
+        f"Package: p{at:05d}\nVersion: 1.0\nArchitecture: any\n\n" for at in range(count)
+    )
+    (folder / "the lists/Sources é").write_text(text)
+    (folder / "the lists/Packages").write_text("")
+    return folder / "the lists/Sources é", f"amd64={folder}/the lists/Packages"
+
+
+STEPS = ("while it is served", "try the merge on a copy", "send 3 lines", "check the sums", "name the copy")
+
+
+def merges_without_a_stop(folder):
+    """A merge of an office that is served with a folder of lists: a backup, the merges and the reports in their order.
+    Nothing is stopped, and nothing is left in that folder. With --stop the service is stopped."""
+    place = folder / "an office" / "to merge"
+    with Trial(folder, LISTS=place, JOURNAL=folder / "journal") as office:
+        office.fill()
+        office.do("run", stdin=office.lines(["add-arch arm64 linux arm64"]))
+        office.do("start")
+        process = office.server()
+        sources, part = lists_of(folder)
+        words = [sources, part, sources, part.replace("amd64=", "arm64=")]
+        (folder / "r").write_text("new 1.30 uninstallable libx is missing\n")
+        (place / "office-4194305-0123456789abcdef-Sources").write_text("left by a call that was broken off")
+        said, steps = office.do("merge", "--most-removed", "0", "--report", f"amd64={folder}/r", *words)
+        answers = [json.loads(line) for line in said.splitlines()[:-1]]
+        expect([one["ok"] for one in answers] == ["merge", "merge", "report"] and answers[2]["changed"] == 1, said)
+        order = [steps.index(step) for step in STEPS]
+        expect(order == sorted(order) and "stop the service" not in steps, f"the steps are {steps}")
+        expect(office.saved() == [Path(said.splitlines()[-1])], f"there are {office.saved()}")
+        _, steps = office.do("--dry-run", "merge", *words)
+        expect("would send 2 lines" in steps and not os.listdir(place), f"{os.listdir(place)} is left: {steps}")
+        expect(office.server() == process, "the service was stopped")
+        counts = [json.loads(line)["accepted"] for line in (folder / "journal").read_text().splitlines()]
+        expect(counts == list(range(1, 9)), f"the journal has {counts}")
+        _, steps = office.do("merge", "--stop", *words)
+        expect("stop the service" in steps and office.server() not in (None, process), steps)
+
+
+def says_what_is_wrong_with_its_folder(folder):
+    """A folder of lists into which nothing can be put, or another one than that of the service, costs no stop; an
+    office that was started without one is stopped, and then has it."""
+    place = folder / "an office" / "to merge"
+    with Trial(folder, LISTS=place) as office:
+        office.fill()
+        office.do("start")
+        process = office.server()
+        words = lists_of(folder)
+        place.rename(folder / "gone")
+        _, steps = office.do("merge", *words, wanted=2)
+        expect(f"no list can be put into {place}: see LISTS of" in steps and not office.saved(), steps)
+        (folder / "gone").rename(place)
+        (folder / "other").mkdir()
+        office.settings["LISTS"] = folder / "other"
+        office.write_settings()
+        _, steps = office.do("merge", *words, wanted=3)
+        expect("NoList (does it serve with another folder than LISTS?)" in steps, steps)
+        expect(office.server() == process and not os.listdir(folder / "other"), "it was stopped, or left a list")
+        del office.settings["LISTS"]
+        office.write_settings()
+        _, steps = office.do("merge", *words)
+        expect("stop the service" in steps, steps)
+        office.settings["LISTS"] = place
+        office.write_settings()
+        line = f"merge {folder}/SOURCES amd64={folder}/PACKAGES"
+        _, steps = office.do("run", stdin=office.lines([line]))
+        expect("since the office was not started with --lists, so the service is stopped" in steps, steps)
+        _, steps = office.do("run", stdin=office.lines([line]))
+        expect("send 1 lines" in steps and "stop the service" not in steps, steps)
+
+
+def says_that_a_merge_is_in_doubt(folder):
+    """A program that is killed within a merge: the merge is named as in doubt, and may be repeated."""
+    place = folder / "an office" / "to merge"
+    with Trial(folder, LISTS=place) as office:
+        office.fill()
+        office.do("start")
+        lists = lists_of(folder, 20000)
+        words = [OFFICE, "--settings", office.conf, "merge", "--no-look", *lists]
+        with subprocess.Popen(words, stdout=subprocess.PIPE, stderr=subprocess.PIPE, text=True) as merge:
+            wait_until(lambda: any(name[0] != "." for name in os.listdir(place)), "no list is put there")
+            time.sleep(0.1)
+            os.kill(office.server(), signal.SIGKILL)
+            said, steps = merge.communicate(timeout=WAIT)
+        expect(merge.returncode == 3 and "line 1 (" in steps and "is in doubt" in steps, f"{said}{steps}")
+        expect(not os.listdir(place), f"{os.listdir(place)} is left")
+        wait_until(office.runs, "the service is not started again")
+        said, _ = office.do("merge", *lists)
+        expect(json.loads(said.splitlines()[0])["ok"] == "merge", said)
+
+
 def says_which_line_is_in_doubt(folder):
     """An answer that is lost: the line stands, it is named, and nothing after it is sent. A query is sent again."""
     with Trial(folder) as office:
@@ -287,6 +397,7 @@ def goes_on_while_the_program_starts_anew(folder):
 
 TESTS = [
     answers_alike, answers_random_lines_alike, commands_answer_alike, stops_nothing, stops_for_what_has_no_request,
+    merges_without_a_stop, says_what_is_wrong_with_its_folder, says_that_a_merge_is_in_doubt,
     says_which_line_is_in_doubt, ends_where_the_office_is_stopped, says_where_a_signal_ended_it,
     goes_on_while_the_program_starts_anew,
 ]  # fmt: skip

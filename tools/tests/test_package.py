@@ -259,7 +259,7 @@ def completion_has_each_subcommand(folder):
         "something is offered for other words",
     )
     expect(
-        completed("wb", "serve", "--") == ["--journal", "--port", "--requests"],
+        completed("wb", "serve", "--") == ["--journal", "--lists", "--port", "--requests"],
         f"after serve: {completed('wb', 'serve', '--')}",
     )
     tree = office_parser()

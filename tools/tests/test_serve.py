@@ -25,7 +25,7 @@ import time
 
 import query_cases
 from harness import ROOT, SEED, WAIT, WB, answers_of, expect, listens, main, run
-from serve_runs import Server, answer_bytes, received, request_bytes
+from serve_runs import Server, answer_bytes, received, request_bytes, with_lists_of_page
 from store_runs import TWO_ARCHS, edit, rows_of
 
 KILLS = int(os.environ.get("KILLS", "100"))
@@ -159,7 +159,7 @@ def answers_the_examples_of_its_page(folder):
     lines, examples = page.split("```")[1], page.split("```")[3]
     answers_of(folder, lines.splitlines()[1:])
     said = examples.splitlines()[1:]
-    with Server(folder) as server:
+    with Server(folder, more=with_lists_of_page(folder)) as server:
         for command, wanted in zip(said[::2], said[1::2], strict=True):
             words = shlex.split(command.removeprefix("$ ").replace(":8080", f":{server.port}"))
             done = subprocess.run([*words, "-sS"], capture_output=True, timeout=WAIT, check=False)

@@ -107,7 +107,7 @@ def have_settings_and_units_in_the_package(folder):
     unit = (units / "wb@.service").read_text().replace("%i", "experimental")
     expect("/etc/wb/office.conf" not in unit and "EnvironmentFile=/etc/wb/experimental.conf" in unit, unit)
     places = re.search("^StateDirectory=(.*)$", unit, re.M)[1].split()
-    wanted = [str(path) for path in (settings.store.parent, settings.backups)]
+    wanted = [str(path) for path in (settings.store.parent, settings.backups, settings.lists)]
     expect([f"/var/lib/{place}" for place in places] == wanted, f"the folders are {places} and {wanted}")
     expect(unit.count("\n") == (units / "wb.service").read_text().count("\n"), "the units differ in more than these")
     expect(not (folder / "root/etc/systemd").exists(), "the package enables a unit")

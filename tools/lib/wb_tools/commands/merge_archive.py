@@ -39,18 +39,19 @@ from wb_tools.waits import send_report, waiting_after, waiting_now
 
 PROGRAM = "merge-archive"
 DESCRIPTION = """Brings an office up to its archive. It fetches the lists (by fetch-lists), looks at them, prepares them
-(by prepare-lists), and then stops the office once, copies it, merges the lists of all architectures, and starts it
-again if it ran before (by office merge, which checks the copy after that). FOLDER has the lists as they were fetched,
-and FOLDER/ready the prepared ones. Once they are merged, the lists of an architecture are put into FOLDER/merged, and
-how many paragraphs they have into FOLDER/merged/counts.
+(by prepare-lists), copies the office, and merges the lists of all architectures (by office merge, which checks the copy
+after that). An office that is served with the folder LISTS of its settings goes on meanwhile; without LISTS, and with
+--stop, it is stopped once for all of this, and started again if it ran before. FOLDER has the lists as they were
+fetched, and FOLDER/ready the prepared ones. Once they are merged, the lists of an architecture are put into
+FOLDER/merged, and how many paragraphs they have into FOLDER/merged/counts.
 
 With --indep the builds of `all` are merged too. With --dose it asks dose-builddebcheck (by report-from-dose), before
-the office is stopped, which of the packages that the merge may make wait can be built; the report is given after the
-merges and before the office starts, so that nobody is handed a new package that cannot be built. With --only-report
-nothing is merged: dose is asked about what waits now, by the lists in FOLDER/merged, and the serving office is given
-the reports; a line for each has how many records it changed.
+the merge, which of the packages that it may make wait can be built; the report is given right after the merges. A
+builder that asks between the two may be handed a new package that cannot be built; with --stop nobody is. With
+--only-report nothing is merged: dose is asked about what waits now, by the lists in FOLDER/merged, and the serving
+office is given the reports; a line for each has how many records it changed.
 
-A list is refused, before the office is stopped, if
+A list is refused, before anything is done to the office, if
 
 - it is compressed, empty, malformed or not UTF-8, or was cut off: no empty line ends it, or its last paragraph lacks a
   field that the paragraphs of an archive's list have, and that all others have;
@@ -176,7 +177,7 @@ def look_at(path: Path, arch: str) -> Look:
     return look
 
 
-# Lists are refused here, before the office is stopped, and not by the merge: it takes its lists as they are, so that
+# Lists are refused here, and not by the merge: it takes its lists as they are, so that
 # one definition says what it does, and which lists nobody wants to be merged depends on the archive and on the day.
 # They are looked at as they were fetched, since prepare-lists keeps each paragraph. An archive loses far fewer than 5
 # of 100 paragraphs from one day to the next. What was merged stands apart from what was fetched, so no list is compared
@@ -283,6 +284,7 @@ def office_words(words: argparse.Namespace) -> list[str]:
     found = ["--settings", words.settings] if words.settings else []
     found += ["--dry-run"] if words.dry_run else []
     found += ["merge", "--no-look"] + (["--most-removed", words.most_removed] if words.most_removed else [])
+    found += ["--stop"] if words.stop else []
     for arch in lists_of(words) if words.dose else []:
         found += ["--report", f"{arch}={words.folder / 'ready' / f'report-{arch}'}"]
     for arch, (sources, packages) in lists_of(words).items():
@@ -436,6 +438,7 @@ def add_merge_options(parser: argparse.ArgumentParser) -> None:
         "--most-removed", metavar="N", type=number,
         help="merge into a copy first, and go on if no more than N are removed",
     )
+    parser.add_argument("--stop", action="store_true", help="stop the office for the merge, also if LISTS is set")
 
 
 def add_more_options(parser: argparse.ArgumentParser) -> None:
@@ -449,7 +452,7 @@ def add_more_options(parser: argparse.ArgumentParser) -> None:
     )
     parser.add_argument(
         "--dose", action="store_true",
-        help="ask dose-builddebcheck which packages can be built, and give its report before the office starts",
+        help="ask dose-builddebcheck which packages can be built, and give its report after the merges",
     )
     parser.add_argument(
         "--only-report", action="store_true",

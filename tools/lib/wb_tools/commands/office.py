@@ -44,6 +44,7 @@ settings, lines of KEY=VALUE as systemd's EnvironmentFile has them, a value with
   PORT             the port of 127.0.0.1                8080
   REQUESTS         connections until it starts anew     1000000
   JOURNAL          a file to which a line for each accepted command is appended
+  LISTS            a folder from which the serving office merges lists, so that a merge stops nothing
   SERVICE          systemd or pidfile                   systemd
   UNIT             the unit, with systemd               wb.service
   PID_FILE, LOG    its process and messages, with pidfile
@@ -61,8 +62,8 @@ exit statuses:
   0  done; of status: the service runs and answers
   1  a step failed or was refused, or the office refused a line; the message says which
   2  the words or the settings are wrong; nothing was done
-  3  the service does not run; of merge, run and backup: it ran before and could not be started again; of run, report,
-     enter and add-..: an answer was lost, and the message names the line that is in doubt
+  3  the service does not run; of merge, run and backup: it ran before and could not be started again; of merge, run,
+     report, enter and add-..: an answer was lost, and the message names the line that is in doubt
 """
 
 
@@ -93,18 +94,20 @@ def suite_settings(suite: str) -> Path:
 
 def add_merge(below: Any) -> None:
     """The command `merge` and its options."""
-    merge = below.add_parser("merge", help="look at the lists, stop, back up, merge, start")
+    merge = below.add_parser("merge", help="look at the lists, back up, merge; with a stop if LISTS is not set")
+    merge.add_argument(
+        "--stop", action="store_true",
+        help="stop the service for all of it, so that nothing comes between the backup, the merges and the reports",
+    )
     merge.add_argument(
         "--most-removed", metavar="N", type=whole_number,
         help="merge into a copy first; go on if no part removes more than N",
     )
     merge.add_argument(
         "--report", metavar="ARCH=FILE", action="append", default=[],
-        help="a report that is given after the merges, before the service starts",
+        help="a report that is given after the merges, before the service starts if it was stopped",
     )
-    merge.add_argument(
-        "--no-look", dest="looks", action="store_false", help="do not read the lists before the service is stopped"
-    )
+    merge.add_argument("--no-look", dest="looks", action="store_false", help="do not read the lists before")
     merge.add_argument(
         "lists", metavar="LIST", nargs="+",
         help="SOURCESFILE ARCH=PACKAGESFILE.., which may stand several times",
@@ -146,7 +149,7 @@ def parser() -> argparse.ArgumentParser:
         command = below.add_parser(name, help=about)
         for word in OFFICE_COMMANDS[name].split():
             command.add_argument(word, metavar=word.upper())
-    below.add_parser("run", help="give the office the lines of standard input, without a stop if none is a merge")
+    below.add_parser("run", help="give the office the lines of standard input, without a stop if each has a request")
     below.add_parser("ready", help="end with 0 if there is an office that may be served; what the unit asks first")
     below.add_parser("keep", help="serve in the foreground, again and again, for those without systemd")
     for command in below.choices.values():  # it may stand after the command too
@@ -176,7 +179,8 @@ def act(office: Office, settings: Settings, words: argparse.Namespace) -> int:
             prune(settings, office.step)
         case "merge":
             merges = read_merges(words.lists)
-            office.merge(merges, read_reports(words.report, merges), words.most_removed, words.looks)
+            reports = read_reports(words.report, merges)
+            office.merge(merges, reports, words.most_removed, words.looks, words.stop)
         case name if name in COMMANDS:
             office.command([name, *(getattr(words, word) for word in OFFICE_COMMANDS[name].split())])
         case "run":

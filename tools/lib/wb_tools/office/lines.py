@@ -57,13 +57,14 @@ class NoRequest(Exception):
 
 @dataclass(frozen=True)
 class Line:
-    """A line that is not blank. It has the path of its request, and the body if that is no query; or the fault that is
-    answered to it, and why; or else why it has no request."""
+    """A line that is not blank. It has the path of its request, and the body if that is no query, of a merge with paths
+    in place of names; or the fault that is answered to it, and why; or else why it has no request."""
 
     number: int
     text: str
     path: str = ""
     body: bytes | None = None
+    merge: dict[str, Any] | None = None
     fault: str = ""
     why: str = ""
 
@@ -105,8 +106,11 @@ def read_line(number: int, line: bytes) -> Line:
         text = line.decode().strip(" \t")
     except UnicodeDecodeError:
         return Line(number, "", fault="line", why="it is not UTF-8")
+    words = re.split("[ \t]+", text)
     try:
-        return Line(number, text, *request_of(re.split("[ \t]+", text)))
+        if words[0] == "merge":
+            return Line(number, text, "/v1/merge", merge=merge_of(words))
+        return Line(number, text, *request_of(words))
     except Fault as fault:
         return Line(number, text, fault=fault.name, why=str(fault))
     except NoRequest as why:
@@ -125,14 +129,27 @@ def request_of(words: Sequence[str]) -> tuple[str, bytes | None]:
     if command not in COMMANDS:
         raise Fault("line", f"there is no command {command}")
     arguments = arguments_of(words, COMMANDS[command].split())
-    if command == "merge":
-        raise NoRequest("a merge has no request")
     if command == "report":
         arguments["text"] = report_text(arguments.pop("file"))
     body = json.dumps(arguments, ensure_ascii=False, separators=(",", ":")).encode()
     if len(body) > MOST_BODY:
         raise NoRequest(f"its request would have more than {MOST_BODY} bytes")
     return f"/v1/{command}", body
+
+
+def merge_of(words: Sequence[str]) -> dict[str, Any]:
+    """What the request for a merge has, with the paths of the lists in place of their names."""
+    values, _ = parted(words)
+    if len(values) < 2:
+        raise Fault("line", f"merge lacks its argument {'parts' if values else 'sources'}")
+    parts = [part.partition("=") for part in values[1:]]
+    for (arch, equals, packages), word in zip(parts, values[1:]):
+        if not equals:
+            raise Fault("line", f"{word} is no ARCH=PACKAGESFILE")
+    for file in (values[0], *(packages for _, _, packages in parts)):
+        if os.path.isdir(file):
+            raise NoRequest(f"{file} is a folder")
+    return {"parts": [{"arch": arch, "packages": packages} for arch, _, packages in parts], "sources": values[0]}
 
 
 def arguments_of(words: Sequence[str], keys: Sequence[str]) -> dict[str, Any]:

@@ -1,4 +1,4 @@
-"""The words of a merge of tools/bin/office, and what is looked at before the service is stopped for it."""
+"""The words of a merge of tools/bin/office, and what is looked at before it."""
 from __future__ import annotations
 
 import http.client
@@ -13,8 +13,8 @@ from wb_tools.lists import Refused, paragraphs
 from wb_tools.office.files import word_for
 from wb_tools.office.settings import WRONG_WORDS, Refusal
 
+LOOK = 40  # seconds: more than an office takes at most for one connection
 PART = re.compile("([a-z0-9][a-z0-9-]*)=(.+)", re.DOTALL)
-ANSWER = 40  # seconds: more than an office takes at most for one connection
 
 
 @dataclass
@@ -90,7 +90,7 @@ def look_at_lists(merges: Sequence[Merge]) -> None:
 
 def ask_served(port: int, path: str) -> dict[str, Any]:
     """What a serving office answers; nothing if it gives no answer."""
-    connection = http.client.HTTPConnection("127.0.0.1", port, timeout=ANSWER)
+    connection = http.client.HTTPConnection("127.0.0.1", port, timeout=LOOK)
     try:
         connection.request("GET", path)
         answer = json.loads(connection.getresponse().read())

@@ -6,14 +6,18 @@ import json
 import sys
 import time
 from collections.abc import Callable, Iterable
-from dataclasses import dataclass
+from dataclasses import dataclass, field
+from pathlib import Path
 from typing import Any, cast
 
-from wb_tools.office.lines import Line
+from wb_tools.office.folder import named_in
+from wb_tools.office.lines import Fault, Line
 from wb_tools.office.settings import NOT_RUNNING, Refusal, tell
 from wb_tools.wanna_build.office import NoAnswer, NotSent, Office
 
 PAUSE = 0.3  # seconds between two tries
+ANSWER = 120  # seconds: more than an office takes for the merge of another client and for one connection
+MERGE = 3600  # seconds: more than a merge of all architectures takes
 FAULTS = {"line": 2, "file": 3}  # the status of a line by its fault
 ENDS = {"Store", "Closed"}  # refusals after which a run stops
 
@@ -30,11 +34,13 @@ def write_answers(said: bytes) -> None:
 @dataclass
 class Sender:
     """What sends lines one by one. An office that takes no connection is asked again for so many seconds, as long as
-    its service runs."""
+    its service runs. Lists of merges are put into its folder."""
 
-    office: Office
+    port: int
     runs: Callable[[], bool]
     wait: float
+    lists: Path | None
+    answered: list[str] = field(default_factory=list)
 
     def send(self, lines: Iterable[Line]) -> int:
         """Shows the answer to each line, and answers the status of the run."""
@@ -48,9 +54,14 @@ class Sender:
         return status
 
     def give(self, line: Line) -> int:
-        """Shows the answer to a line, and answers its status."""
-        answer = self.fault(line) if line.fault else self.answer(line)
+        """Shows the answer to a line, keeps it, and answers its status."""
+        try:
+            answer = self.answer(line)
+        except Fault as fault:
+            tell(f"{line}: {fault}")
+            answer = json.dumps({"fault": fault.name}, separators=(",", ":")).encode()
         said = self.judged(line, answer)
+        self.answered.append(answer.decode(errors="replace"))
         try:
             write_answers(answer + b"\n")
         except OSError as error:
@@ -59,19 +70,25 @@ class Sender:
             raise Refusal(f"the office closed at {line}: nothing after it was sent")
         return 1 if "refused" in said else FAULTS.get(said.get("fault", ""), 0)
 
-    def fault(self, line: Line) -> bytes:
-        """The answer to a line that the program answers without asking the office."""
-        tell(f"{line}: {line.why}")
-        return json.dumps({"fault": line.fault}, separators=(",", ":")).encode()
-
     def answer(self, line: Line) -> bytes:
+        """What is answered to a line. A fault is that of one that the program answers without asking the office."""
+        if line.fault:
+            raise Fault(line.fault, line.why)
+        if line.merge is None:
+            return self.asked(line, ANSWER, line.body)
+        assert self.lists
+        with named_in(self.lists, line.merge) as body:
+            return self.asked(line, MERGE, body)
+
+    def asked(self, line: Line, seconds: float, body: bytes | None) -> bytes:
         """What the office answers to a line. What it did not get, and a query, are sent again."""
+        office = Office(self.port, seconds)
         end = time.monotonic() + self.wait
         while True:
             try:
-                return self.office.answer("GET" if line.body is None else "POST", line.path, line.body)
+                return office.answer("GET" if body is None else "POST", line.path, body)
             except NoAnswer as fault:
-                if line.body is not None and not isinstance(fault, NotSent):
+                if body is not None and not isinstance(fault, NotSent):
                     raise Refusal(
                         f"{fault}. {line} is in doubt: it may have been carried out or not; nothing after it was sent",
                         NOT_RUNNING,
@@ -90,12 +107,14 @@ class Sender:
             said = None
         if not isinstance(said, dict):
             raise Refusal(
-                f"what answers on port {self.office.port} is no office: {line} is in doubt; nothing after it was sent",
+                f"what answers on port {self.port} is no office: {line} is in doubt; nothing after it was sent",
                 NOT_RUNNING,
             )
         if "http" in said:
+            why = " (does it serve with another folder than LISTS?)" if said["http"] == "NoList" else ""
             raise Refusal(
-                f"the office answered {said['http']} to {line}, which was not carried out; nothing after it was sent",
+                f"the office answered {said['http']}{why} to {line}, which was not carried out; nothing after it was "
+                "sent",
                 NOT_RUNNING,
             )
         return said

@@ -39,6 +39,7 @@ class Settings:
     port: int = 8080
     requests: int = 1000000
     journal: Path | None = None
+    lists: Path | None = None  # the folder of lists that the serving office may merge
     service: str = "systemd"
     unit: str = "wb.service"
     pid_file: Path | None = None
@@ -57,8 +58,12 @@ class Settings:
         """The words of the program that have it keep the journal, if one is kept."""
         return ["--journal", str(self.journal)] if self.journal else []
 
+    def lists_words(self) -> list[str]:
+        """The words of the program that have it merge by requests, if there is a folder for that."""
+        return ["--lists", str(self.lists)] if self.lists else []
 
-PATHS = {"STORE", "BACKUPS", "PROGRAM", "JOURNAL", "PID_FILE", "LOG", "SNAPSHOT_FOLDER"}
+
+PATHS = {"STORE", "BACKUPS", "PROGRAM", "JOURNAL", "LISTS", "PID_FILE", "LOG", "SNAPSHOT_FOLDER"}
 NUMBERS = {"PORT": 65535, "REQUESTS": 1000000, "WAIT": 86400, "KEEP_BACKUPS": 1000000, "KEEP_DAYS": 36500}
 COMMANDS = {"SNAPSHOT_MAKE", "SNAPSHOT_DROP"}
 TEXTS = {"SERVICE", "UNIT", "OWNER", "MERGE", "PAGE"}

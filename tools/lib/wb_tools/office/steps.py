@@ -22,13 +22,12 @@ from wb_tools.office.files import (
 )
 from wb_tools.office.lines import Line, line_of, read_lines
 from wb_tools.office.merges import (
-    ANSWER, Merge, archs_of, ask_served, lines_of, look_at_lists, parts_of, report_parts,
+    Merge, archs_of, ask_served, lines_of, look_at_lists, parts_of, report_parts,
 )
 from wb_tools.office.prune import backups_in, bytes_of
 from wb_tools.office.sending import Sender, write_answers
 from wb_tools.office.service import ASK_AGAIN, PidFile, Systemd, answers, listens
 from wb_tools.office.settings import DONE, FAILED, NOT_RUNNING, WRONG_WORDS, Owner, Refusal, Settings, tell
-from wb_tools.wanna_build.office import Office as Served
 
 SPARE_ROOM = 16 << 20  # bytes that a backup leaves free
 STARTING = 10  # seconds for an office that begins to serve
@@ -148,7 +147,7 @@ class Office:
         signal.signal(signal.SIGINT, end)
         words = [
             "serve", "--port", str(self.settings.port), "--requests", str(self.settings.requests),
-            *self.settings.journal_words(),
+            *self.settings.journal_words(), *self.settings.lists_words(),
         ]
         failures = 0
         while True:
@@ -406,6 +405,12 @@ class Office:
             raise Refusal(f"the program ended with {status}: " + MEANING.get(status, "it was killed, or failed"))
         return answered
 
+    def give_all(self, lines: Sequence[str]) -> str:
+        """Gives the office lines, each of which is said, and answers its answers."""
+        if not self.step("give the office: " + "; ".join(lines)):
+            return ""
+        return self.give("".join(f"{line}\n" for line in lines).encode())
+
     def run(self, lines: bytes) -> None:
         """Sends lines to the office while it is served, if each of them can be answered so. Else it stops the service,
         gives the program the lines, and starts the service again."""
@@ -435,7 +440,7 @@ class Office:
             found = next(read_lines(line.encode()))
             if not found.is_known:
                 raise Refusal(f"{found.why}; nothing was done: office run stops the service for such a line")
-            if not self.takes_lines():
+            if not self.takes("/v1/enter"):
                 raise Refusal(
                     f"what serves on port {self.settings.port} takes no commands; nothing was done: office run stops "
                     "the service for one"
@@ -448,52 +453,77 @@ class Office:
             return None
         found = list(read_lines(lines))
         alone = next((line for line in found if not line.is_known), None)
+        merge = next((line for line in found if line.merge), None)
         if alone is not None:
             tell(f"{alone}: {alone.why}, so the service is stopped for these lines")
-        elif self.takes_lines():
-            return found
-        else:
+        elif not self.takes("/v1/enter"):
             tell(f"what serves on port {self.settings.port} takes no lines, so the service is stopped for them")
+        elif merge and not self.takes_merges():
+            tell(
+                f"{merge}: a merge has no request, since the office was not started with --lists, so the service is "
+                "stopped for these lines"
+            )
+        else:
+            return found
         return None
 
-    def takes_lines(self) -> bool:
-        """Whether the office answers, and knows the requests of lines; one that begins to serve has some seconds."""
+    def takes(self, path: str) -> bool:
+        """Whether the office answers, and knows the request of a command; one that begins to serve has some seconds."""
         end = time.monotonic() + min(self.settings.wait, STARTING)
         while True:
-            said = ask_served(self.settings.port, "/v1/enter")
+            said = ask_served(self.settings.port, path)
             if said or time.monotonic() > end:
                 return said.get("http") == "WrongMethod"
             time.sleep(ASK_AGAIN)
 
-    def send(self, lines: Sequence[Line]) -> None:
-        """Sends the serving office lines, and shows its answers."""
-        port = self.settings.port
-        if not self.step(f"send {len(lines)} lines to the office that serves on port {port}"):
-            return
-        status = Sender(Served(port, ANSWER), self.service.runs, self.settings.wait).send(lines)
+    def takes_merges(self) -> bool:
+        """Whether the office is served with the folder of the settings, from which it merges lists. One into which no
+        list can be put is refused."""
+        lists = self.settings.lists
+        if not (lists and self.service.runs() and self.takes("/v1/merge")):
+            return False
+        if not lists.is_dir() or not os.access(lists, os.W_OK | os.X_OK, effective_ids=True):
+            raise Refusal(f"no list can be put into {lists}: see LISTS of {self.settings.file}", WRONG_WORDS)
+        return True
+
+    def send(self, lines: Sequence[Line]) -> str:
+        """Sends the serving office lines, shows its answers, and answers them."""
+        if not self.step(f"send {len(lines)} lines to the office that serves on port {self.settings.port}"):
+            return ""
+        sender = Sender(self.settings.port, self.service.runs, self.settings.wait, self.settings.lists)
+        status = sender.send(lines)
         if status != 0:
             raise Refusal(f"the lines ended with {status}: {MEANING[status]}")
+        return "".join(f"{answer}\n" for answer in sender.answered)
 
     def merge(
-        self, merges: Sequence[Merge], reports: Sequence[tuple[str, str]], most_removed: int | None, looks: bool
+        self, merges: Sequence[Merge], reports: Sequence[tuple[str, str]], most_removed: int | None, looks: bool,
+        stops: bool,
     ) -> None:
-        """Stops the service once, copies the office, merges, gives the reports, and starts the service again, also if
-        this failed. What can be looked at is looked at before, and the copy is checked after the start."""
+        """Copies the office, merges, and gives the reports: by requests if it is served with a folder of lists, which
+        stops nothing. Else the service is stopped once for all of it, and started again, also if this failed. What can
+        be looked at is looked at before, and the copy is checked after it."""
         self.require_ready()
         with links_to_lists(self.dry) as links:
             lines = lines_of(links, merges, reports)
             if looks:
                 look_at_lists(merges)
             self.require_archs(archs_of(merges))
+            sent = list(read_lines("\n".join(lines).encode()))
             made = None
             try:
-                with self.stopped():
-                    with self.closed_to_others():
-                        made = self.copy_office(self.files)
-                    if most_removed is not None:
+                if not stops and all(line.is_known for line in sent) and self.takes_merges():
+                    made = self.copy_office(self.files, is_written=True)
+                    self.rehearse(made, lines[: len(merges)], most_removed)
+                    answered = self.send(sent)
+                else:
+                    with self.stopped():
+                        with self.closed_to_others():
+                            made = self.copy_office(self.files)
                         self.rehearse(made, lines[: len(merges)], most_removed)
-                    if self.step("give the office: " + "; ".join(lines)):
-                        report_parts(self.give("".join(f"{line}\n" for line in lines).encode()))
+                        answered = self.give_all(lines)
+                if not self.dry:
+                    report_parts(answered)
             finally:
                 if made:
                     self.show_name(self.name_copy(made))
@@ -512,8 +542,11 @@ class Office:
             if answer.get("refused") == "UnknownArch":
                 raise Refusal(f"the office has no architecture {arch} (UnknownArch); nothing was done: see add-arch")
 
-    def rehearse(self, backup: Path, lines: Sequence[str], most_removed: int) -> None:
-        """Merges into a copy of the backup, and refuses to go on if a part removes too much."""
+    def rehearse(self, backup: Path, lines: Sequence[str], most_removed: int | None) -> None:
+        """Merges into a copy of the backup, and refuses to go on if a part removes too much. Without a number nothing
+        is too much."""
+        if most_removed is None:
+            return
         if not self.step(f"try the merge on a copy, and go on if each part removes at most {most_removed}"):
             return
         trial = self.settings.backups / f".rehearsal.{os.getpid()}"
@@ -534,8 +567,8 @@ class Office:
         """Makes an empty office where none is, and the folders of its files."""
         if self.marker.exists() or any(self.files.sizes()):
             raise Refusal(f"{self.files.database} or its log is there already")
-        for folder in (self.files.database.parent, self.settings.backups):
-            if not folder.exists() and self.step(f"make the folder {folder}"):
+        for folder in (self.files.database.parent, self.settings.backups, self.settings.lists):
+            if folder and not folder.exists() and self.step(f"make the folder {folder}"):
                 folder.mkdir(mode=0o750, parents=True)
         if self.step(f"make an empty office in {self.settings.store}"):
             self.give(b"")
