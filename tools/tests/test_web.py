@@ -13,6 +13,7 @@ import re
 import subprocess
 import sys
 import time
+import urllib.parse
 import xml.etree.ElementTree as ElementTree
 
 from harness import BIN, ROOT, expect, expect_none, free_port, main
@@ -157,6 +158,68 @@ def finds_packages(site):
     wanted = {"Package": "zlib", "amd64": "Building", "arm64": "Needs-Build"}
     expect(rows[0] == wanted and "No office has a record of none." in page.text, f"{rows}")
     expect("none." in site.page("/?q=nothing-of-it").text, "a word that is nowhere")
+
+
+@of_day
+def reads_lists_as_they_are_pasted(site):
+    """The names of a list with sources, versions, architectures, suites, brackets and commas, each once; one name with
+    its version; and words of notes as they are."""
+    lists = [
+        "src:hello,zlib_1:1.3-1_amd64", "hello_1.0-1\r\nzlib_1:1.3-1\r\nhello\r\n", "Hello/sid; zlib:amd64,",
+        "hello (>= 1.0-1) [amd64 arm64], zlib (1:1.3-1)", "src:zlib src:hello hello=1.0-1",
+    ]
+    for text in lists:
+        found = site.json(f"/index.json?q={urllib.parse.quote(text)}")
+        names = [row["source"] for row in found["found"]["rows"]]
+        expect(sorted(names) == ["hello", "zlib"] and found["missing"] == [], f"{text!r}: {found}")
+        expect(found["q"] == " ".join(names), f"{text!r} is {found['q']!r} in the field")
+    for word, caption in {"src:zlib": "zlib", "hello_1.0-1": "hello", "x86_64": "x86_64", "r_x:y": "r_x:y"}.items():
+        text = site.page(f"/?q={word}").text
+        expect(f"Packages with {caption}" in text, f"{word}: {text}")
+    text = site.page("/?q=" + "+".join(f"n{at}" for at in range(201))).text
+    expect("201 names are asked for: the first 200 are shown" in text, text)
+
+
+@of_day
+def counts_what_is_left(site):
+    """Of several packages, how many are in each state and left to do on each architecture; only these, if asked."""
+    page = site.page(f"/?q=hello+zlib+{LONG}")
+    wanted = [
+        {"Architecture": "amd64", "Left to do": "3", "Needs-Build": "0", "Building": "1", "Built": "1", "Dep-Wait": "0",
+         "Failed": "1"},
+        {"Architecture": "arm64", "Left to do": "3", "Needs-Build": "2", "Building": "0", "Built": "0", "Dep-Wait": "1",
+         "Failed": "0"},
+    ]
+    expect(page.tables["What is left to do"] == wanted, f"{page.tables}")
+    expect(page.links["Left to do: 3"] == f"?q=hello+zlib+{LONG}&left=1", f"{page.links}")
+
+
+def leaves_out_what_is_done(folder):
+    """What is uploaded, installed or not for an architecture is not left to do."""
+    lines = [*ARCHS, *(f"enter {arch} {name} 1 optional libs" for arch in ("amd64", "arm64") for name in ("a0", "b0"))]
+    lines += ["enter amd64 c0 1 optional libs", "not-for-us arm64 a0 1 no", "take amd64 b1 a0 1", "built 1"]
+    with office(folder, [*lines, "uploaded 1"]) as served, Site(folder, **settings(folder, served.port)) as site:
+        found = site.json("/index.json?q=a0+b0+c0+d0&left=1")
+        expect([row["source"] for row in found["found"]["rows"]] == ["b0", "c0"], f"{found}")
+        expect((found["missing"], found["count"]) == (["d0"], 2), f"{found}")
+        met = [(row["arch"], row["left"], row["absent"]) for row in found["left"]["rows"]]
+        expect(met == [("amd64", 2, 0), ("arm64", 1, 1)], f"{met}")
+        page = site.page("/?q=a0+b0+c0+d0&left=1")
+        expect(len(page.tables["2 of 4 packages are left to do"]) == 2, f"{page.tables}")
+
+
+@of_day
+def proposes_names(site):
+    """For a name with a typing error, and for that of a library, those that are like it, with their states."""
+    row = {"Package": "hello", "amd64": "Built", "arm64": "Dep-Wait"}
+    for word in ("hllo", "helo", "hellp", "helllo", "ehllo", "HELLP", "hello-dev", "hello-data-2"):
+        [met] = site.page(f"/?q={word}").tables["Packages with names like it"]
+        expect(met == row | {"Text": f"in place of {word}"}, f"{word}: {met}")
+    page = site.page("/?q=zlib+hllo+none")
+    expect([one["Package"] for one in page.tables["Packages with names like it"]] == ["hello"], f"{page.tables}")
+    expect("No office has a record of hllo, none." in page.text, page.text)
+    for word in ("hello", "zzz", "xhellox", "baz-dev+hello", "%22%27%3C"):
+        expect("Packages with names like it" not in site.page(f"/?q={word}").tables, word)
 
 
 @of_day
@@ -442,11 +505,11 @@ def has_texts_that_are_seen():
 
 
 TESTS = [
-    shows_a_package, shows_where_all_stands, shows_a_builder, finds_packages, tells_what_happened,
-    leads_to_the_logs_of_failures, sorts_and_parts_lists, keeps_texts_texts, says_what_its_answers_are,
-    has_links_that_lead_somewhere, says_what_is_missing, shows_what_it_has, shows_an_office_without_architectures,
-    waits_no_longer_than_it_says, says_before_when, follows_its_index,
-    takes_the_settings_that_it_says, lists_its_settings, has_texts_that_are_seen,
+    shows_a_package, shows_where_all_stands, shows_a_builder, finds_packages, reads_lists_as_they_are_pasted,
+    counts_what_is_left, leaves_out_what_is_done, proposes_names, tells_what_happened, leads_to_the_logs_of_failures,
+    sorts_and_parts_lists, keeps_texts_texts, says_what_its_answers_are, has_links_that_lead_somewhere,
+    says_what_is_missing, shows_what_it_has, shows_an_office_without_architectures, waits_no_longer_than_it_says,
+    says_before_when, follows_its_index, takes_the_settings_that_it_says, lists_its_settings, has_texts_that_are_seen,
 ]
 
 if __name__ == "__main__":
