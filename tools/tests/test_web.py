@@ -99,7 +99,7 @@ def shows_a_package(site):
     commands = sorted(row["Command"] for row in page.tables["History"])
     expect(commands == ["attempted", "built", "give-back", "next", "next", "next", "waits"], f"{commands}")
     row = site.page("/package/zlib").tables["Where it stands"][1]
-    expect((row["State"], row["Place"]) == ("Needs-Build", "2"), f"{row}")
+    expect((row["State"], row["Place"]) == ("Needs-Build", "2 of 2"), f"{row}")
     found = site.json("/package/hello.json")["records"]["rows"]
     met = [(one["arch"], one["state"], one["take"], one["waits"]) for one in found]
     expect(met == [("amd64", "Built", 1, ""), ("arm64", "Dep-Wait", None, WAITS)], f"{met}")
@@ -249,6 +249,22 @@ def leads_to_the_logs_of_failures(folder):
         expect(logs == ["log of hello 1.0 on amd64"], f"{logs}")
         expect(page.links["log of hello 1.0 on amd64"] == "https://logs.example.org/hello_1.0_amd64", f"{page.links}")
         expect("Log" not in site.page("/arch/amd64/Failed").tables["Failed on amd64"][0], "a log of no build")
+
+
+def says_why_there_is_nothing(folder):
+    """An architecture without a record of a package is named, a place in the queue says of how many, each state what it
+    means; and what is not known leads to a search."""
+    lines = [*ARCHS, *(f"enter amd64 s{at:03} 1 optional libs" for at in range(MANY))]
+    with office(folder, lines) as served, Site(folder, **settings(folder, served.port)) as site:
+        page = site.page("/package/s149")
+        expect(page.tables["Where it stands"][0]["Place"] == "150 of 250", f"{page.tables}")
+        expect(page.links["150"] == "/arch/amd64/Needs-Build?suite=sid&page=2", f"{page.links}")
+        expect("No record on arm64: no merge found it listed there." in page.text, page.text)
+        expect("Needs-Build It waits in the queue for a builder." in page.text, page.text)
+        expect(page.links["What names it"] == "/?q=s149", f"{page.links}")
+        expect(site.json("/package/s149.json")["absent"] == [{"arch": "arm64", "suite": "sid"}], "its JSON")
+        page = site.page("/package/s999", 404)
+        expect(page.links["Search for it"] == "/?q=s999", f"{page.links}")
 
 
 def sorts_and_parts_lists(folder):
@@ -507,9 +523,10 @@ def has_texts_that_are_seen():
 TESTS = [
     shows_a_package, shows_where_all_stands, shows_a_builder, finds_packages, reads_lists_as_they_are_pasted,
     counts_what_is_left, leaves_out_what_is_done, proposes_names, tells_what_happened, leads_to_the_logs_of_failures,
-    sorts_and_parts_lists, keeps_texts_texts, says_what_its_answers_are, has_links_that_lead_somewhere,
-    says_what_is_missing, shows_what_it_has, shows_an_office_without_architectures, waits_no_longer_than_it_says,
-    says_before_when, follows_its_index, takes_the_settings_that_it_says, lists_its_settings, has_texts_that_are_seen,
+    says_why_there_is_nothing, sorts_and_parts_lists, keeps_texts_texts,
+    says_what_its_answers_are, has_links_that_lead_somewhere, says_what_is_missing, shows_what_it_has,
+    shows_an_office_without_architectures, waits_no_longer_than_it_says, says_before_when, follows_its_index,
+    takes_the_settings_that_it_says, lists_its_settings, has_texts_that_are_seen,
 ]
 
 if __name__ == "__main__":

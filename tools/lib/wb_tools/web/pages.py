@@ -16,6 +16,19 @@ from wb_tools.web.visit import Visit
 OLDEST = 10  # rows of what has waited longest
 Page = dict[str, Any]  # what a template shows; `status` is that of the page, and `template` its name
 
+# What each state means to somebody who does not know it (docs/operations/PORTER.md).
+MEANINGS = {
+    "Needs-Build": "It waits in the queue for a builder.",
+    "Building": "A builder builds it now.",
+    "Built": "It is built, and its builder has not uploaded it yet.",
+    "Uploaded": "It is uploaded, and the archive does not list it yet.",
+    "Installed": "The archive has it.",
+    "Dep-Wait": "It waits until the archive has what it needs to be built; then a merge puts it into the queue.",
+    "BD-Uninstallable": "What it needs to be built cannot be installed there now; the next report may change it.",
+    "Build-Attempted": "Its build failed, and no porter has looked at it yet: it may be given back, or be mended.",
+    "Failed": "A porter found that it cannot be built until something is mended, as the note says.",
+    "Not-For-Us": "It is not to be built on this architecture, as a porter decided.",
+}
 PACKAGE = Column("source", "Package", "package")
 ARCH, STATE, BUILDER = Column("arch", "Architecture", "arch"), Column("state", "State", "state"), Column(
     "builder", "Builder", "builder"
@@ -124,13 +137,15 @@ def package(visit: Visit, name: str) -> Page:
             events += [event_row(suite, event) for event in changes]
     records = visit.columns(
         ARCH, STATE, Column("build", "Version", "version"), Column("since", "Since", "since"), BUILDER,
-        Column("place", "Place", "number"), Column("waits", "Waits for", "waits"),
+        Column("place", "Place", "queued"), Column("waits", "Waits for", "waits"),
         Column("note", "Note", "note"),
     )
     return {
         "template": "package.html", "title": name, "status": visit.status(bool(rows or events)), "name": name,
         "is_shown": bool(rows or events),
         "records": listed("Where it stands", records, rows, visit.args, "", "r-"),
+        "absent": absent_from(visit, rows) if rows else [],
+        "meanings": {state: MEANINGS[state] for state in STATES if any(row["state"] == state for row in rows)},
         "needs": needs_of(rows),
         "builds": listed("Builds", visit.columns(*BUILDS), builds, visit.args, "-started", "b-"),
         "events": listed("History", visit.columns(*EVENTS), events, visit.args, "-at"),
@@ -145,7 +160,7 @@ def record_rows(visit: Visit, suite: Suite, name: str) -> Iterable[Row]:
         if found is not None:
             record = visit.record(suite, found)
             row = record_row(visit, suite, record)
-            row["place"] = place_of(visit, suite, record)
+            row["place"], row["queued"] = place_of(visit, suite, record)
             needs = visit.ask(suite, "depends", arch, name)
             yield row | {"needs": needs["depends"] if needs else None}
 
@@ -158,11 +173,19 @@ def record_row(visit: Visit, suite: Suite, record: Record) -> Row:
     return row | {"waits": waits_of(visit, record.waits), "note": record.note or record.message}
 
 
-def place_of(visit: Visit, suite: Suite, record: Record) -> int | None:
-    """The place in the queue, if it is there; the first is 1."""
+def place_of(visit: Visit, suite: Suite, record: Record) -> tuple[int | None, int | None]:
+    """The place in the queue, if it is there, of which the first is 1, and how many are there."""
     found = visit.ask(suite, "queue", record.arch) if record.state == "Needs-Build" else None
     names = [one.get("source") for one in found["queue"]] if found else []
-    return names.index(record.source) + 1 if record.source in names else None
+    return (names.index(record.source) + 1, len(names)) if record.source in names else (None, None)
+
+
+def absent_from(visit: Visit, rows: list[Row]) -> list[Row]:
+    """The architectures of offices that answered all and have no record of a package."""
+    there = {(row["suite"], row["arch"]) for row in rows}
+    suites = [suite for suite in visit.suites() if suite.name in visit.heard]
+    pairs = [(suite.name, arch) for suite in suites for arch in visit.known(suite).heard]
+    return [{"suite": suite, "arch": arch} for suite, arch in pairs if (suite, arch) not in there]
 
 
 def waits_of(visit: Visit, text: str) -> list[Row]:
