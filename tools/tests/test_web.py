@@ -251,6 +251,42 @@ def leads_to_the_logs_of_failures(folder):
         expect("Log" not in site.page("/arch/amd64/Failed").tables["Failed on amd64"][0], "a log of no build")
 
 
+def shows_a_porter_what_failed(folder):
+    """The last builder of each that failed, how often this version failed, the reasons that several have, and those
+    that failed since a day; the first click on Since has the last first."""
+    lines = [*ARCHS, "add-builder b2 amd64", *(f"enter amd64 {name} 1 optional libs" for name in ("a0", "b0", "c0"))]
+    lines += ["take amd64 b1 a0 1", "attempted 1 no memory", "give-back amd64 a0 1", "take amd64 b2 a0 1"]
+    lines += ["attempted 2 ld died", "take amd64 b1 b0 1", "attempted 3 ld died", "take amd64 b1 c0 1"]
+    with office(folder, [*lines, "attempted 4 no memory"]) as served:
+        days = {1: "2026-04-09", 2: "2026-04-09", 3: "2026-04-11", 4: "2026-04-10"}
+        journal = folder / "office.journal"
+        texts = []
+        for line in journal.read_text().splitlines():
+            found = json.loads(line)
+            day_of_line = days.get(found["command"].get("take"), "2026-04-08")
+            texts.append(json.dumps(found | {"time": f"{day_of_line}T12:00:00Z"}) + "\n")
+        journal.write_text("".join(texts))
+        (folder / "office.journal.index").unlink()
+        update(folder)
+        with Site(folder, **settings(folder, served.port)) as site:
+            page = site.page("/arch/amd64/Build-Attempted")
+            met = [tuple(row[key] for key in ("Package", "Builder", "Failed builds", "Note"))
+                   for row in page.tables["Build-Attempted on amd64"]]
+            wanted = [("a0", "b2", "2", "ld died"), ("b0", "b1", "1", "ld died"), ("c0", "b1", "1", "no memory")]
+            expect(met == wanted, f"{met}")
+            expect(page.tables["The same reason"] == [{"Reason": "ld died", "Packages": "2"}], f"{page.tables}")
+            expect(page.links["ld died"] == "?q=ld+died" and page.links["Since"] == "?sort=-since", f"{page.links}")
+            expect("Its build failed, and no porter has looked at it yet" in page.text, page.text)
+            for words, names in {"q=ld+died": ["a0", "b0"], "sort=-since": ["b0", "c0", "a0"],
+                                 "sort=builder": ["b0", "c0", "a0"], "sort=-failures": ["a0", "b0", "c0"],
+                                 "from=2026-04-10": ["b0", "c0"], "from=2026-04-12": [], "from=x": ["a0", "b0", "c0"],
+                                 "from=2026-04-10&q=memory": ["c0"]}.items():
+                found = site.json(f"/arch/amd64/Build-Attempted.json?{words}")
+                met = [row["source"] for row in found["records"]["rows"]]
+                expect(met == names, f"{words}: {met}")
+            expect(found["reasons"]["rows"] == [{"text": "ld died", "count": 2}], f"{found['reasons']}")
+
+
 def says_why_there_is_nothing(folder):
     """An architecture without a record of a package is named, a place in the queue says of how many, each state what it
     means; and what is not known leads to a search."""
@@ -523,7 +559,7 @@ def has_texts_that_are_seen():
 TESTS = [
     shows_a_package, shows_where_all_stands, shows_a_builder, finds_packages, reads_lists_as_they_are_pasted,
     counts_what_is_left, leaves_out_what_is_done, proposes_names, tells_what_happened, leads_to_the_logs_of_failures,
-    says_why_there_is_nothing, sorts_and_parts_lists, keeps_texts_texts,
+    shows_a_porter_what_failed, says_why_there_is_nothing, sorts_and_parts_lists, keeps_texts_texts,
     says_what_its_answers_are, has_links_that_lead_somewhere, says_what_is_missing, shows_what_it_has,
     shows_an_office_without_architectures, waits_no_longer_than_it_says, says_before_when, follows_its_index,
     takes_the_settings_that_it_says, lists_its_settings, has_texts_that_are_seen,

@@ -69,6 +69,15 @@ class Build:
 
 
 @dataclass(frozen=True, slots=True)
+class LastBuild:
+    """The last hand-out of a package in a version, and how many of those in this version failed."""
+
+    id: int
+    builder: str | None
+    failures: int
+
+
+@dataclass(frozen=True, slots=True)
 class Import:
     """A merge or a report, for an architecture; the table `import` has the same columns."""
 
@@ -270,6 +279,12 @@ class Index:
         condition, values = where(columns)
         for row in self.rows(f"SELECT * FROM build WHERE {condition} {more}", values):
             yield Build(*row)
+
+    def last_builds(self, arch: str) -> dict[tuple[str, str], LastBuild]:
+        """The last hand-out of each package of an architecture, by its name and the version of its binaries."""
+        statement = """SELECT source, CASE build WHEN '' THEN version ELSE build END AS built, max(id), builder,
+          sum(result = 'failed') FROM build WHERE arch = ? GROUP BY source, built"""
+        return {(source, built): LastBuild(*last) for source, built, *last in self.rows(statement, (arch,))}
 
     def results_of(self, builder: str) -> dict[str, dict[str, list[int | None]]]:
         """How long each build of a builder took, by architecture and result."""

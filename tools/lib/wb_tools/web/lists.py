@@ -1,24 +1,27 @@
 """What stands on the pages of an architecture, a state and a builder, and on that of all events."""
 import calendar
 import re
-from collections.abc import Iterator, Sequence
+from collections import Counter
+from collections.abc import Iterator, Mapping, Sequence
 from typing import Any
 
 from wb_tools.answers import HELD, STATES
-from wb_tools.index.asking import Index, median_of
+from wb_tools.index.asking import Index, LastBuild, median_of
 from wb_tools.web.charts import bar
 from wb_tools.web.offices import Fault
 from wb_tools.web.pages import (
-    ARCH, BUILDER, BUILDS, EVENTS, PACKAGE, STATE, Page, build_row, event_row, log_of, record_row,
+    ARCH, BUILDER, BUILDS, EVENTS, MEANINGS, PACKAGE, STATE, Page, build_row, event_row, log_of, record_row,
 )
 from wb_tools.web.settings import Suite
-from wb_tools.web.tables import ROWS, Column, Order, Row, listed, order_of, places_in, sort, table
+from wb_tools.web.tables import ROWS, Column, Order, Row, address, listed, order_of, places_in, sort, table
 from wb_tools.web.visit import Visit
 
 FILTERS = ("source", "arch", "builder", "by", "command")  # columns by which /history chooses
 FAILURES = ("Build-Attempted", "Failed")  # states of which a porter wants to see the log
 FIELDS = {"builder": "holder", "priority": "build_priority"}  # of a record, by the columns that have another name
 COLUMNS = {"build": "version"}  # of an index, by which other columns of a page are sorted
+REASONS = 8  # of the records of a state, those that are the most frequent
+REASON = 200  # characters of one by which records are searched
 
 
 # ---- an architecture
@@ -48,6 +51,7 @@ def state(visit: Visit, arch_name: str, name: str) -> Page:
     """The records of a state, with their places if it is the queue."""
     page: Page = {"template": "state.html", "title": f"{name} on {arch_name}", "arch": arch_name, "state": name}
     page |= {"q": visit.args.get("q", ""), "suite": None, "suites": [], "records": None}
+    page |= {"from": visit.args.get("from", ""), "reasons": None, "meaning": MEANINGS.get(name)}
     having = []
     for one in visit.settings.suites:
         with visit.of(one):
@@ -60,6 +64,7 @@ def state(visit: Visit, arch_name: str, name: str) -> Page:
             found = visit.ask(suite, "by-state", arch_name, name)
             if found:
                 page["records"] = records_table(visit, suite, arch_name, name, found["records"])
+                page["reasons"] = reasons_table(visit, found["records"])
     return page | {"status": visit.status(page["records"] is not None)}
 
 
@@ -67,25 +72,45 @@ def records_table(visit: Visit, suite: Suite, arch_name: str, name: str, found: 
     """Records as a table; only those that are shown are looked at closely."""
     columns, caption, text = columns_of(name), f"{name} on {arch_name}", visit.args.get("q", "")
     chosen = [one for one in found if has_text(one, text)] if text else found
+    begin = day_begin(visit.args.get("from", ""))
+    if begin is not None:
+        times = times_of(visit, suite, arch_name, name, chosen)
+        chosen = [one for one, at in zip(chosen, times) if isinstance(at, int) and at >= begin]
     order = order_of(visit.args, columns, columns[0].key)
+    builds = last_builds(visit, suite, arch_name) if name in FAILURES else {}
     places = places_of(visit, suite, arch_name) if name == "Needs-Build" else {}
     if order.key == "since":
         values = times_of(visit, suite, arch_name, name, chosen)
     elif order.key == "place":
         values = [places.get(str(one.get("source"))) for one in chosen]
+    elif order.key in ("builder", "failures") and name in FAILURES:
+        values = [getattr(builds.get(build_key(one)), order.key, None) for one in chosen]
     else:
         values = [value_of(one, order.key) for one in chosen]
     part = places_in(values, order.is_down)[order.offset : order.offset + ROWS]
     rows = [row_of(suite, chosen[at]) | {"place": places.get(str(chosen[at].get("source")))} for at in part]
-    return table(caption, columns, closely(visit, rows), len(chosen), order, visit.args)
+    return table(caption, columns, closely(visit, rows, builds), len(chosen), order, visit.args)
+
+
+def reasons_table(visit: Visit, found: list[dict[str, Any]]) -> Row | None:
+    """Why the records of a state are there, each reason that several have, with the list of those that have it."""
+    texts = (one.get("waits") or one.get("note") or one.get("message") for one in found)
+    counts = Counter(text for text in texts if isinstance(text, str) and text)
+    rows = [{"text": text, "count": count, "href": address({"suite": visit.args.get("suite", "")}, q=text[:REASON])}
+            for text, count in counts.most_common(REASONS) if count > 1]
+    order = Order("", False, 1)
+    columns = [Column("text", "Reason", "reason"), Column("count", "Packages", "number")]
+    return table("The same reason", columns, rows, len(rows), order, {}, is_fixed=True) if rows else None
 
 
 def columns_of(name: str) -> list[Column]:
     """The columns of the records of a state."""
     return [
         *([Column("place", "Place", "number")] if name == "Needs-Build" else []), PACKAGE,
-        Column("build", "Version", "version"), Column("since", "Since", "since"), *([BUILDER] if name in HELD else []),
+        Column("build", "Version", "version"), Column("since", "Since", "since", is_down=name in FAILURES),
+        *([BUILDER] if name in (*HELD, *FAILURES) else []),
         *([Column("waits", "Waits for", "waits")] if name == "Dep-Wait" else []),
+        *([Column("failures", "Failed builds", "number", is_down=True)] if name in FAILURES else []),
         *([Column("log", "Log", "log")] if name in FAILURES else []), Column("priority", "Build priority", "number"),
         Column("note", "Note", "note"),
     ]
@@ -104,19 +129,32 @@ def row_of(suite: Suite, found: dict[str, Any]) -> Row:
     return {key: value_of(found, key) for key in keys} | {"suite": suite.name, "found": found, "of": suite}
 
 
-def closely(visit: Visit, rows: list[Row]) -> list[Row]:
+def closely(visit: Visit, rows: list[Row], builds: Mapping[tuple[str, str], LastBuild]) -> list[Row]:
     """Rows of records, with all that is shown of them."""
     found = []
     for row in rows:
-        one = record_row(visit, row["of"], visit.record(row["of"], row["found"]))
-        found.append(one | {"place": row.get("place"), "log": last_log(visit, row["of"], one)})
+        one = record_row(visit, row["of"], visit.record(row["of"], row["found"])) | {"place": row.get("place")}
+        last = builds.get((one["source"], one["build"]))
+        if last:
+            one |= {"builder": last.builder, "failures": last.failures, "log": last_log(visit, row["of"], last)}
+        found.append(one)
     return found
 
 
-def last_log(visit: Visit, suite: Suite, row: Row) -> str | None:
-    """The address of the log of the last build of what failed."""
-    index = visit.index(suite) if row["state"] in FAILURES else None
-    builds = index.builds("ORDER BY id DESC LIMIT 1", source=row["source"], arch=row["arch"]) if index else iter(())
+def build_key(found: dict[str, Any]) -> tuple[str, str]:
+    return str(found.get("source")), str(found.get("build"))
+
+
+def last_builds(visit: Visit, suite: Suite, arch_name: str) -> dict[tuple[str, str], LastBuild]:
+    """The last build of each package in each of its versions, and how many of these failed."""
+    index = visit.index(suite)
+    return index.last_builds(arch_name) if index else {}
+
+
+def last_log(visit: Visit, suite: Suite, last: LastBuild) -> str | None:
+    """The address of the log of a build of what failed."""
+    index = visit.index(suite)
+    builds = index.builds_of([last.id]).values() if index else ()
     return next((log_of(visit, build) for build in builds if build.took is not None), None)
 
 
@@ -185,7 +223,7 @@ def held_table(visit: Visit, rows: list[Row]) -> Row:
                 key = str(row["arch"]), str(row["source"])
                 row["since"] = visit.since(row["of"], key, str(row["state"]), row["take"])
         part = sort(rows, order)[order.offset : order.offset + ROWS]
-        return table("What it holds", columns, closely(visit, part), len(rows), order, visit.args, "h-")
+        return table("What it holds", columns, closely(visit, part, {}), len(rows), order, visit.args, "h-")
     except Fault as fault:
         visit.faults.append(fault)
         visit.heard.clear()
@@ -262,13 +300,20 @@ def history(visit: Visit) -> Page:
     }
 
 
+def day_begin(text: str) -> int | None:
+    """When a day begins, in seconds, if a text is one."""
+    day = re.fullmatch(r"([0-9]{4})-([0-9]{2})-([0-9]{2})", text)
+    if day and 1 <= int(day[2]) <= 12 and 1 <= int(day[3]) <= 31 and int(day[1]) >= 1970:
+        return calendar.timegm((int(day[1]), int(day[2]), int(day[3]), 0, 0, 0))
+    return None
+
+
 def chosen(visit: Visit) -> tuple[str, list[object]]:
     """The condition that the address of /history asks for."""
     given = {key: visit.args[key] for key in FILTERS if visit.args.get(key)}
     parts, values = [f"{key} = ?" for key in given], list[object](given.values())
-    day = re.fullmatch(r"(\d{4})-(\d\d)-(\d\d)", visit.args.get("day", ""))
-    if day and 1 <= int(day[2]) <= 12 and 1 <= int(day[3]) <= 31 and int(day[1]) >= 1970:
-        begin = calendar.timegm((int(day[1]), int(day[2]), int(day[3]), 0, 0, 0))
+    begin = day_begin(visit.args.get("day", ""))
+    if begin is not None:
         parts.append("at >= ? AND at < ?")
         values += [begin, begin + 86400]
     return " AND ".join(["1", *parts]), values

@@ -13,11 +13,13 @@ Row = dict[str, Any]
 
 @dataclass(frozen=True, slots=True)
 class Column:
-    """The key of a column in the rows, its head, and the kind of its cells, which a template shows."""
+    """The key of a column in the rows, its head, the kind of its cells, which a template shows, and whether its head
+    leads to the greatest first."""
 
     key: str
     head: str
     kind: str = "text"
+    is_down: bool = False
 
 
 @dataclass(frozen=True, slots=True)
@@ -79,7 +81,8 @@ def table(
     heads = []
     for column in (one for one in columns if not rows or any(row.get(one.key) not in NOTHING for row in rows)):
         is_here = column.key == order.key
-        asked = f"-{column.key}" if is_here and not order.is_down else column.key
+        is_down_next = not order.is_down if is_here else column.is_down
+        asked = f"-{column.key}" if is_down_next else column.key
         how = ("descending" if order.is_down else "ascending") if is_here else None
         href = None if is_fixed else address(args, **{f"{name}sort": asked, f"{name}page": None})
         heads.append({"key": column.key, "head": column.head, "kind": column.kind, "sorted": how, "href": href})
