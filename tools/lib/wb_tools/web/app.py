@@ -26,7 +26,7 @@ HEADERS = {
     "Content-Security-Policy": POLICY, "X-Content-Type-Options": "nosniff", "Referrer-Policy": "no-referrer",
     "Cross-Origin-Resource-Policy": "same-origin", "Cache-Control": "no-cache",
 }
-HIDDEN = ("template", "title", "query", "archs_known", "choices", "is_of_several", "meanings", "meaning")  # what only a template needs
+HIDDEN = ("template", "title", "query", "archs_known", "choices", "meanings", "meaning")  # what only a template needs
 LONGEST = 8192  # bytes of an address
 FAULTS = {404: "There is no such page.", 405: "A page of this site is only read.", 414: "The address is too long."}
 
