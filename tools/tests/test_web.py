@@ -213,13 +213,13 @@ def proposes_names(site):
     """For a name with a typing error, and for that of a library, those that are like it, with their states."""
     row = {"Package": "hello", "amd64": "Built", "arm64": "Dep-Wait"}
     for word in ("hllo", "helo", "hellp", "helllo", "ehllo", "HELLP", "hello-dev", "hello-data-2"):
-        [met] = site.page(f"/?q={word}").tables["Packages with names like it"]
+        [met] = site.page(f"/?q={word}").tables["Packages of similar names"]
         expect(met == row | {"Text": f"in place of {word}"}, f"{word}: {met}")
     page = site.page("/?q=zlib+hllo+none")
-    expect([one["Package"] for one in page.tables["Packages with names like it"]] == ["hello"], f"{page.tables}")
+    expect([one["Package"] for one in page.tables["Packages of similar names"]] == ["hello"], f"{page.tables}")
     expect("No office has a record of hllo, none." in page.text, page.text)
     for word in ("hello", "zzz", "xhellox", "baz-dev+hello", "%22%27%3C"):
-        expect("Packages with names like it" not in site.page(f"/?q={word}").tables, word)
+        expect("Packages of similar names" not in site.page(f"/?q={word}").tables, word)
 
 
 @of_day

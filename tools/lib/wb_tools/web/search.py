@@ -107,7 +107,7 @@ def like_table(visit: Visit, words: Sequence[str]) -> Row | None:
         for name in sorted(names_like(word) & known - {word}):
             found.setdefault(name, f"in place of {word}")
     rows = matrix(visit, list(found)[:LIKE], found)
-    return in_pages(visit, "Packages with names like it", rows, len(rows), LIKE) if rows else None
+    return in_pages(visit, "Packages of similar names", rows, len(rows), LIKE) if rows else None
 
 
 def names_known(visit: Visit) -> set[str]:
@@ -167,8 +167,7 @@ def found_names(visit: Visit, word: str) -> tuple[list[str], Notes]:
 
 
 def add_queued(visit: Visit, suite: Suite, arch: str, word: str, names: set[str]) -> None:
-    found = visit.ask(suite, "queue", arch)
-    names |= {str(one.get("source")) for one in found["queue"] if word in str(one.get("source"))} if found else set()
+    names |= {name for name in visit.queued(suite, arch) if word in name}
 
 
 def add_noted(visit: Visit, suite: Suite, arch: str, word: str, notes: Notes) -> None:

@@ -26,6 +26,7 @@ class Visit:
         self.notes: list[str] = []  # what is said above a page besides
         self.heard: set[str] = set()  # the suites whose offices answered all that they were asked
         self.indexes: dict[str, Index | None] = {}
+        self.queues: dict[tuple[str, str], list[str]] = {}
 
     def suites(self) -> list[Suite]:
         """The suites that the page is of: that which its address names, else all."""
@@ -71,6 +72,13 @@ class Visit:
         found = self.asker.ask(suite, query, *words)
         self.heard.add(suite.name)
         return found
+
+    def queued(self, suite: Suite, arch: str) -> list[str]:
+        """The names of what waits in a queue, which is asked for once."""
+        if (suite.name, arch) not in self.queues:
+            found = self.ask(suite, "queue", arch)
+            self.queues[suite.name, arch] = [str(one.get("source")) for one in found["queue"]] if found else []
+        return self.queues[suite.name, arch]
 
     def record(self, suite: Suite, found: dict[str, Any]) -> Record:
         return self.asker.record(suite, found)
