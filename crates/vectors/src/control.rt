@@ -1,4 +1,5 @@
-//! The reading of control data, on texts. A case is a paragraph, or the end of the text with its fault.
+//! The reading of control data, on texts. A case is a paragraph, or the end of the text with its
+//! fault.
 
 use crate::feed::try_feed;
 use crate::outcome::Outcome;
@@ -101,7 +102,8 @@ fn compared(alloc: Global, wanted: &Answer, found: &Answer) -> Result<Outcome, A
     Ok(outcome)
 }
 
-/// Tries the bytes of a text against its answer, which is JSON; and a feed on the same bytes, whose differences alone count.
+/// Tries the bytes of a text against its answer, which is JSON; and a feed on the same bytes, whose
+/// differences alone count.
 pub(crate) fn tried(alloc: Global, bytes: &[u8], answer: &str) -> Result<Outcome> {
     let wanted: Answer = serde_json::from_str(alloc, answer)?;
     let found = answer_of(alloc, bytes)?;

@@ -7,11 +7,12 @@ use deb_control::{ControlFault, ControlFaultKind, Feed, OwnedParagraph};
 use std::alloc::{AllocError, Global};
 use std::io::{self, BufRead, BufReader, ErrorKind, Read};
 
-/// The greatest length of a text that is tried with a reader that fails at each of its reads in turn.
+/// The greatest length of a text that is tried with a reader that fails at each of its reads in
+/// turn.
 const FAILING_LIMIT: usize = 1024;
 
-/// A reader that gives at most `step` bytes a read, and of which one read fails, after so many reads. The fault is one after
-/// which a reader may be asked again, which a feed must not do.
+/// A reader that gives at most `step` bytes a read, and of which one read fails, after so many
+/// reads. The fault is one after which a reader may be asked again, which a feed must not do.
 struct CutReader<'a> {
     left: &'a [u8],
     step: usize,
@@ -80,7 +81,8 @@ fn answer_of<R: BufRead + Drop>(alloc: Global, feed: &mut Feed<R>) -> Result<Ans
     Ok(Answer { paragraphs, fault })
 }
 
-/// What a feed answers for the bytes in pieces of at most `step` bytes, if the read after so many fails.
+/// What a feed answers for the bytes in pieces of at most `step` bytes, if the read after so many
+/// fails.
 fn fed(alloc: Global, bytes: &[u8], step: usize, reads: usize) -> Result<Answer> {
     let reader = CutReader {
         left: bytes,
@@ -104,7 +106,8 @@ fn try_pieces(
     Ok(outcome.compare(alloc, 0, wanted.as_str(), found.as_str())?)
 }
 
-/// Whether a feed that was cut gave paragraphs that are wanted, in their order, and then `Read`, or the fault that is wanted.
+/// Whether a feed that was cut gave paragraphs that are wanted, in their order, and then `Read`, or
+/// the fault that is wanted.
 fn is_cut_of(alloc: Global, found: &Answer, wanted: &Answer) -> Result<bool, AllocError> {
     for (found, wanted) in found.paragraphs.iter().zip(wanted.paragraphs.iter()) {
         let found = format!(in alloc; "{found:?}")?;
@@ -124,7 +127,8 @@ fn is_cut_of(alloc: Global, found: &Answer, wanted: &Answer) -> Result<bool, All
     )
 }
 
-/// Tries that a feed whose read fails after so many answers `Read` then, and nothing that is not wanted before.
+/// Tries that a feed whose read fails after so many answers `Read` then, and nothing that is not
+/// wanted before.
 fn try_failing(
     alloc: Global,
     bytes: &[u8],
@@ -146,7 +150,8 @@ fn try_failing(
     Ok(())
 }
 
-/// Tries a feed on the bytes, in pieces of 1, 7 and 4096 bytes, and if the text is short with each read failing in turn.
+/// Tries a feed on the bytes, in pieces of 1, 7 and 4096 bytes, and if the text is short with each
+/// read failing in turn.
 pub(crate) fn try_feed(
     alloc: Global,
     bytes: &[u8],

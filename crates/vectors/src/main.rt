@@ -1,6 +1,7 @@
-//! Tries versions, relations and the reading of control data on the cases of other programs and this project's own. For each
-//! name that it is given a line goes to standard output that says how many cases there are and how many differ, and a line for
-//! each that does. Names after the word `--measure` are those of files with which it measures how fast they are read.
+//! Tries versions, relations and the reading of control data on the cases of other programs and
+//! this project's own. For each name that it is given a line goes to standard output that says how
+//! many cases there are and how many differ, and a line for each that does. Names after the word
+//! `--measure` are those of files with which it measures how fast they are read.
 #![tactic(auto)]
 
 mod control;
@@ -31,8 +32,8 @@ fn main(rt: HostRuntime) -> Result<()> {
 // Cases are rows of data, and not tests: a test is proved like all other code, and a table of cases
 // costs the more the longer it is, though nothing is learnt from its proof. Those of requests are
 // given to `trials` in the same way.
-/// Tries the cases of a name, which picks what is tried: `version_..` and `relations..` are files of rows, and each other is a
-/// text of control data, `NAME.txt`, with its answer in `NAME.json`.
+/// Tries the cases of a name, which picks what is tried: `version_..` and `relations..` are files
+/// of rows, and each other is a text of control data, `NAME.txt`, with its answer in `NAME.json`.
 fn try_cases(rt: &HostRuntime, name: &str) -> Result<()> {
     let alloc = rt.alloc();
     let outcome = if name.starts_with("version_") {

@@ -3,8 +3,8 @@
 use std::alloc::{AllocError, Global};
 use std::fmt;
 
-/// How many cases there were and how many differ, with a line of text for each that does. It prints as
-/// `3 cases, 1 differ` and those lines.
+/// How many cases there were and how many differ, with a line of text for each that does. It prints
+/// as `3 cases, 1 differ` and those lines.
 #[derive(Debug, Drop)]
 pub(crate) struct Outcome {
     cases: u64,
@@ -22,8 +22,9 @@ impl Outcome {
         }
     }
 
-    /// Adds the case at this place of a text, which differs if what came out is not what was wanted.
-    /// The only error is that there is no memory for its line; the counts then stay as they were.
+    /// Adds the case at this place of a text, which differs if what came out is not what was
+    /// wanted. The only error is that there is no memory for its line; the counts then stay as they
+    /// were.
     pub(crate) fn add(
         &mut self,
         alloc: Global,
@@ -40,7 +41,8 @@ impl Outcome {
         Ok(())
     }
 
-    /// Adds the case at this place of a text only if it differs: it is another way to try what was counted already.
+    /// Adds the case at this place of a text only if it differs: it is another way to try what was
+    /// counted already.
     pub(crate) fn compare(
         &mut self,
         alloc: Global,

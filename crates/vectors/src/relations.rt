@@ -14,7 +14,8 @@ fn words(name: &str) -> (&str, &str) {
     }
 }
 
-/// The architectures that the first line of a file names after its first two cells, up to the source.
+/// The architectures that the first line of a file names after its first two cells, up to the
+/// source.
 fn architectures(alloc: Global, header: &str) -> Result<Vec<ArchWords>, AllocError> {
     let mut architectures = Vec::new(alloc);
     for name in header.split('\t').skip(2) {
@@ -27,7 +28,8 @@ fn architectures(alloc: Global, header: &str) -> Result<Vec<ArchWords>, AllocErr
     Ok(architectures)
 }
 
-/// The printed form of relations and then, after a tab each, of what is left of them for each architecture.
+/// The printed form of relations and then, after a tab each, of what is left of them for each
+/// architecture.
 fn forms(
     alloc: Global,
     architectures: &[ArchWords],

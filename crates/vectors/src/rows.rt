@@ -23,7 +23,8 @@ pub(crate) fn without_last(row: &str) -> &str {
     }
 }
 
-/// What a character means after a backslash: `t` a tab, `n` a line feed, `r` a carriage return, another itself.
+/// What a character means after a backslash: `t` a tab, `n` a line feed, `r` a carriage return,
+/// another itself.
 fn meant(escape: char) -> char {
     match escape {
         't' => '\t',
@@ -33,8 +34,9 @@ fn meant(escape: char) -> char {
     }
 }
 
-/// The text that a cell stands for, where a tab, a line feed, a carriage return and a backslash are written `\t`, `\n`,
-/// `\r` and `\\`. A backslash at the end stands for nothing. The only error is that there is no memory for the text.
+/// The text that a cell stands for, where a tab, a line feed, a carriage return and a backslash are
+/// written `\t`, `\n`, `\r` and `\\`. A backslash at the end stands for nothing. The only error is
+/// that there is no memory for the text.
 pub(crate) fn unescaped(alloc: Global, cell: &str) -> Result<String, AllocError> {
     let mut text = String::new(alloc);
     let mut is_escaped = false;

@@ -1,4 +1,5 @@
-//! How fast control data is read and versions are compared. Counts go to standard output, and the times to standard error.
+//! How fast control data is read and versions are compared. Counts go to standard output, and the
+//! times to standard error.
 
 mod control;
 mod versions;
@@ -7,8 +8,8 @@ use anyhow::Result;
 use std::fs;
 use std::time::Instant;
 
-/// Reads the control data in a file, or parses the versions in one whose name ends in `versions`, one a line, and compares
-/// them ten times.
+/// Reads the control data in a file, or parses the versions in one whose name ends in `versions`,
+/// one a line, and compares them ten times.
 pub(crate) fn measure(rt: &HostRuntime, path: &str) -> Result<()> {
     if path.ends_with("versions") {
         measure_versions(rt, path)

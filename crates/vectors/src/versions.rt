@@ -29,8 +29,8 @@ fn fault_of(alloc: Global, version: &Result<Version, VersionFault>) -> Result<St
     }
 }
 
-/// How a version compares to another, as the rows write it; `unlike` if the other compares to it in another way, or if the
-/// order of the two by `ByOrder` differs.
+/// How a version compares to another, as the rows write it; `unlike` if the other compares to it in
+/// another way, or if the order of the two by `ByOrder` differs.
 fn sign_of(left: &Version, right: &Version) -> &'static str {
     let order = compare(left, right);
     if compare(right, left) == order.reverse() && ByOrder(left).cmp(&ByOrder(right)) == order {
@@ -64,7 +64,8 @@ fn operator(cell: &str) -> Option<Op> {
     }
 }
 
-/// Whether the version in the first cell stands to that in the third as the operator in the second says.
+/// Whether the version in the first cell stands to that in the third as the operator in the second
+/// says.
 fn answer_in(alloc: Global, row: &str) -> Result<String, AllocError> {
     let have = version(alloc, cell(row, 0));
     let want = version(alloc, cell(row, 2));
@@ -74,7 +75,8 @@ fn answer_in(alloc: Global, row: &str) -> Result<String, AllocError> {
     }
 }
 
-/// The parts of the version in the first cell with tabs between, or its fault; its own text, if that differs.
+/// The parts of the version in the first cell with tabs between, or its fault; its own text, if
+/// that differs.
 fn parts_in(alloc: Global, row: &str) -> Result<String, AllocError> {
     let text = unescaped(alloc, cell(row, 0))?;
     match Version::parse(alloc, text.as_str()) {
