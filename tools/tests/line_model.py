@@ -289,10 +289,10 @@ class LineOffice(Office):
             return super().command(name, body, said)
         try:
             parts = (f"{part['arch']}={part['packages']}" for part in body["parts"])
-            return 200, self.line_merge(body["sources"], *parts)
+            answer = self.line_merge(body["sources"], *parts)
         except Refused as why:
-            status = STATUSES.get(why.name, 422)
-            return status, {"code": ALL_CODES[why.name], "refused": why.name, **why.more}
+            answer = {"code": ALL_CODES[why.name], "refused": why.name, **why.more}
+        return STATUSES.get(answer["refused"], 422) if "refused" in answer else 200, answer
 
     # -- the commands that are given otherwise over HTTP
 
