@@ -60,6 +60,7 @@ class Request:
     second: tuple
     rows: tuple | None = None
     takes: bool = True
+    lists: dict = field(default_factory=dict)  # what stands in the folder of the lists, if there is one
 
     @property
     def is_command(self):
@@ -616,8 +617,14 @@ def asking(path, answer, status=200, takes=True):
     return Request(get(path), HELD, (status, answer), (status, answer), (HANDED, HANDED), takes)
 
 
-def refusing(request, status, answer, before=HELD, found=(HANDED, HANDED)):
-    return Request(request, before, (status, answer), (status, answer), found)
+def refusing(request, status, answer, before=HELD, found=(HANDED, HANDED), lists=None):
+    return Request(request, before, (status, answer), (status, answer), found, lists=lists or {})
+
+
+def merge_of(**packages):
+    """The request for a merge of a list for each architecture."""
+    parts = [{"arch": arch, "packages": name} for arch, name in packages.items()]
+    return post("merge", parts=parts, sources="sources")
 
 
 ESCAPED = '{"take":1,"reason":"a \\u0074est"}'
@@ -663,6 +670,17 @@ REQUESTS = {
         (200, accepted(8, "report", changed=1)),
         (200, accepted(9, "report", changed=0)),
         COMMANDS["report"].rows,
+    ),
+    "post-merge": Request(
+        merge_of(amd64="packages", arm64="none"),
+        OFFICE,
+        (200, COMMANDS["merge"].first),
+        (200, COMMANDS["merge"].second),
+        COMMANDS["merge"].rows,
+        lists=LISTS,
+    ),
+    "post-merge-of-no-list": refusing(
+        merge_of(amd64="packages", arm64="nothing"), 404, as_json(http="NoList"), lists=LISTS
     ),
     "post-of-another-state": refusing(
         post("take", arch="amd64", builder="b1", source="tar", version="1.30"), 409, wrong_state("Building")

@@ -224,7 +224,7 @@ class RequestTrial:
 
     def __init__(self, tools, case):
         self.tools, self.case, self.is_cold = tools, case, False
-        self.kept = Kept(tools, {}, case.before)
+        self.kept = Kept(tools, case.lists, case.before)
         self.rows = case.rows
         expect(case.rows[0] == self.kept.rows, f"the rows are {self.kept.rows}")
 
@@ -264,6 +264,7 @@ class RequestTrial:
         while True:
             port = next(PORTS)
             words = [self.tools.wb, "--store", "store", "serve", "--port", str(port), "--requests", "1000000"]
+            words += ["--lists", "."] if self.case.lists else []
             run = Run(self.tools, folder, words)
             if run.wait_for_part():
                 return port, run
