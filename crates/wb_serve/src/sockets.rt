@@ -37,6 +37,9 @@ const HEAD_SECONDS: u64 = 1;
 /// socket may take nothing for longer than that though its client reads on.
 const IDLE_SECONDS: u64 = 5;
 
+/// From how many seconds on an exchange is long.
+const LONG_EXCHANGE_SECONDS: u64 = 1;
+
 /// How many connections in a row may fail to be accepted until the serving ends: the system then
 /// gives none, as when all its files are open, and would be asked again and again.
 const FAILURES: u32 = 100;
@@ -54,6 +57,8 @@ pub(crate) struct Sockets<'a> {
     shared: Shared<'a>,
     remarks: Remarks<'a>,
     start: Instant,
+    /// How much of the time since then was taken by long exchanges, which clients do not answer for.
+    held_up: Duration,
     /// How many connections are still to be accepted.
     left: u64,
     /// Whether one may wait to be accepted.
@@ -108,6 +113,7 @@ impl<'a> Sockets<'a> {
             },
             remarks: Remarks::new(rt),
             start: Instant::now(rt)?,
+            held_up: Duration::ZERO,
             left,
             waiting: true,
             accepts_from: Duration::ZERO,
@@ -218,12 +224,21 @@ impl<'a> Sockets<'a> {
         }
     }
 
-    /// Takes over the time, if the clock can be read.
+    /// Takes over the time after an exchange, if the clock can be read. What a long one has taken
+    /// is not counted: a client has its seconds for what it sends and takes, and a merge in which
+    /// it waits is no fault of its.
     fn look_at_clock(&mut self)
         ensures places { self.new.places.items ≡ self.old.places.items }
     {
-        if let Ok(now) = self.start.elapsed(self.rt) {
+        let Ok(passed) = self.start.elapsed(self.rt) else {
+            return;
+        };
+        let now = passed.saturating_sub(self.held_up);
+        let taken = now.saturating_sub(self.shared.now);
+        if taken < Duration::from_secs(LONG_EXCHANGE_SECONDS) {
             self.shared.now = now;
+        } else {
+            self.held_up = self.held_up.saturating_add(taken);
         }
     }
 
@@ -325,8 +340,9 @@ impl<'a> Sockets<'a> {
         let pause = self.pause();
         let begun = self.start.elapsed(self.rt)?;
         self.poll.poll(&mut self.events, Some(pause))?;
-        self.shared.now = self.start.elapsed(self.rt)?;
-        self.is_sure = !self.events.is_empty() || pause <= self.shared.now.saturating_sub(begun);
+        let ended = self.start.elapsed(self.rt)?;
+        self.shared.now = ended.saturating_sub(self.held_up);
+        self.is_sure = !self.events.is_empty() || pause <= ended.saturating_sub(begun);
         if let Some(due) = self.remarks.due() {
             if due <= self.shared.now {
                 self.remarks.count_left_out();
