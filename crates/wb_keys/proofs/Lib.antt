@@ -1,0 +1,3 @@
+pub mod FileLemmas
+pub mod RightLemmas
+pub mod SoundLemmas

@@ -1,0 +1,115 @@
+-- What rights allow: what may be asked by its kind, and what the rights of builders and of architectures reach.
+use Rattle.std.proofs.Common.{◌≡◌, ℕ, Bool, true, false, ◌||◌, ◌⊎◌, inl, inr, List, [], ◌∷◌, Option, Some, None, refl, sym, ap, ◌∙◌}
+use Rattle.std.specs.Prelude.{bytes_eq}
+use Rattle.std.specs.List.{list_any}
+use Rattle.std.proofs.lemmas.Slice.Eq.{bytes_eq-Decides}
+use Rattle.deb_text.specs.Lists.{IsIn, is_nonempty}
+use Rattle.wb_states.specs.declared.command.Command.{Command}
+use Rattle.wb_states.specs.declared.command.Command.TheVariants as of
+use Rattle.wb_states.specs.Machine.{Machine}
+use Rattle.wb_states.specs.Subject.{Source}
+use Rattle.wb_keys.specs.declared.right.Right.{Right}
+use Rattle.wb_keys.specs.declared.right.Right.TheVariants.{Read, Build, Port, Operate}
+use Rattle.wb_keys.specs.Own.{IsForArch, IsOfBuilder}
+use Rattle.wb_keys.specs.Rights.{Need, Everything, InNameOf, UnderTake, OnArch, holder_of, is_for, is_own, kind_for, may_command, meets}
+
+either-true : (a b : Bool) → (a || b) ≡ true → (a ≡ true) ⊎ (b ≡ true)
+either-true true b h = inl refl
+either-true false b h = inr h
+
+or-true : (a b : Bool) → b ≡ true → (a || b) ≡ true
+or-true true b h = refl
+or-true false b h = h
+
+-- ---- a list of rights
+
+-- where each item that passes one test passes another, a list that has one of the first has one of the second
+pub list_any-more : {X : Type 0} (p q : X → Bool) → ((x : X) → p x ≡ true → q x ≡ true) → (xs : List X)
+    → list_any p xs ≡ true → list_any q xs ≡ true
+list_any-more p q more [] h = h
+list_any-more p q more (x ∷ xs) h = elim (either-true (p x) (list_any p xs) h) [
+  | inl here ↦ ap (λ b. b || list_any q xs) (more x here)
+  | inr later ↦ or-true (q x) (list_any q xs) (list_any-more p q more xs later)
+]
+
+-- an item that passes a test
+pub list_any-IsIn : {X : Type 0} (p : X → Bool) (x : X) (xs : List X) → IsIn x xs → p x ≡ true → list_any p xs ≡ true
+list_any-IsIn p x [] h pass = absurd h
+list_any-IsIn p x (y ∷ ys) (inl same) pass = ap (λ b. b || list_any p ys) (ap p (sym same) ∙ pass)
+list_any-IsIn p x (y ∷ ys) (inr later) pass = or-true (p y) (list_any p ys) (list_any-IsIn p x ys later pass)
+
+pub is_nonempty-IsIn : {X : Type 0} (x : X) (xs : List X) → IsIn x xs → is_nonempty xs ≡ true
+is_nonempty-IsIn x [] h = absurd h
+is_nonempty-IsIn x (y ∷ ys) h = refl
+
+-- ---- what may be given may be asked for
+
+pub asked-by-kind : (holder : Option (List ℕ)) (need : Need) (right : Right) → meets right holder need ≡ true → is_for (kind_for need) right ≡ true
+asked-by-kind holder need Read h = cc
+asked-by-kind holder Everything (Build builder) h = cc
+asked-by-kind holder (InNameOf name) (Build builder) h = refl
+asked-by-kind holder (UnderTake take_number) (Build builder) h = refl
+asked-by-kind holder (OnArch name) (Build builder) h = cc
+asked-by-kind holder Everything (Port arch) h = cc
+asked-by-kind holder (InNameOf name) (Port arch) h = cc
+asked-by-kind holder (UnderTake take_number) (Port arch) h = cc
+asked-by-kind holder (OnArch name) (Port arch) h = refl
+asked-by-kind holder need Operate h = refl
+
+-- ---- one right alone
+
+alone : (b : Bool) → (b || false) ≡ true → b ≡ true
+alone true h = refl
+alone false h = h
+
+same : (one other : List ℕ) → (bytes_eq one other || false) ≡ true → one ≡ other
+same one other h = (bytes_eq-Decides one other).0 (alone (bytes_eq one other) h)
+
+own : (builder : List ℕ) (holder : Option (List ℕ)) → (is_own builder holder || false) ≡ true → (holder ≡ None) ⊎ (holder ≡ Some builder)
+own builder None h = inl refl
+own builder (Some holder) h = inr (ap Some (same holder builder h))
+
+pub of-builder : (builder : List ℕ) (machine : Machine) (command : Command) → may_command (Build builder ∷ []) machine command ≡ true
+    → IsOfBuilder builder machine command
+of-builder builder machine (of.AddArch fields) h = cc
+of-builder builder machine (of.AddBuilder fields) h = cc
+of-builder builder machine (of.Enter fields) h = cc
+of-builder builder machine (of.Next fields) h = inl (fields, refl, same fields.builder builder h)
+of-builder builder machine (of.Take fields) h = inr (inl (fields, refl, same fields.builder builder h))
+of-builder builder machine (of.Built fields) h = inr (inr (fields.take_number, refl, own builder (holder_of machine fields.take_number) h))
+of-builder builder machine (of.Uploaded fields) h = inr (inr (fields.take_number, refl, own builder (holder_of machine fields.take_number) h))
+of-builder builder machine (of.Waits fields) h = inr (inr (fields.take_number, refl, own builder (holder_of machine fields.take_number) h))
+of-builder builder machine (of.PutBack fields) h = inr (inr (fields.take_number, refl, own builder (holder_of machine fields.take_number) h))
+of-builder builder machine (of.Attempted fields) h = inr (inr (fields.take_number, refl, own builder (holder_of machine fields.take_number) h))
+of-builder builder machine (of.GiveBack fields) h = cc
+of-builder builder machine (of.DepWait fields) h = cc
+of-builder builder machine (of.Fail fields) h = cc
+of-builder builder machine (of.NotForUs fields) h = cc
+of-builder builder machine (of.Rebuild fields) h = cc
+of-builder builder machine (of.BuildPriority fields) h = cc
+of-builder builder machine (of.Merge fields) h = cc
+of-builder builder machine (of.Report fields) h = cc
+
+at : (arch name source : List ℕ) → (bytes_eq name arch || false) ≡ true → Source name source ≡ Source arch source
+at arch name source h = ap (λ n. Source n source) (same name arch h)
+
+pub of-porter : (arch : List ℕ) (machine : Machine) (command : Command) → may_command (Port arch ∷ []) machine command ≡ true
+    → IsForArch arch command
+of-porter arch machine (of.AddArch fields) h = cc
+of-porter arch machine (of.AddBuilder fields) h = cc
+of-porter arch machine (of.Enter fields) h = cc
+of-porter arch machine (of.Next fields) h = cc
+of-porter arch machine (of.Take fields) h = cc
+of-porter arch machine (of.Built fields) h = cc
+of-porter arch machine (of.Uploaded fields) h = cc
+of-porter arch machine (of.Waits fields) h = cc
+of-porter arch machine (of.PutBack fields) h = cc
+of-porter arch machine (of.Attempted fields) h = cc
+of-porter arch machine (of.GiveBack fields) h = inr (fields.source, at arch fields.arch fields.source h, refl)
+of-porter arch machine (of.DepWait fields) h = inr (fields.source, at arch fields.arch fields.source h, refl)
+of-porter arch machine (of.Fail fields) h = inr (fields.source, at arch fields.arch fields.source h, refl)
+of-porter arch machine (of.NotForUs fields) h = inr (fields.source, at arch fields.arch fields.source h, refl)
+of-porter arch machine (of.Rebuild fields) h = inr (fields.source, at arch fields.arch fields.source h, refl)
+of-porter arch machine (of.BuildPriority fields) h = inr (fields.source, at arch fields.arch fields.source h, refl)
+of-porter arch machine (of.Merge fields) h = cc
+of-porter arch machine (of.Report fields) h = inl (fields, refl, same fields.arch arch h)

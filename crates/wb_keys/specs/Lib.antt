@@ -1,0 +1,6 @@
+pub mod Access
+pub mod Key
+pub mod KeyFile
+pub mod Needs
+pub mod Own
+pub mod Rights

@@ -1,0 +1,112 @@
+//! What rights allow, in two steps: by the path of a request, and by what its body says.
+ghost use Rattle.std.specs.Prelude.{◌≡◌, ◌↔◌, true};
+ghost use Rattle.std.specs.Option.{option_copied};
+ghost use Rattle.wb_states.specs.Machine.{Machine};
+ghost use Rattle.wb_keys.specs.Rights.{allows, holder_for, is_for, is_own, may_ask_for, may_command, meets, need_of, number_of};
+ghost use Rattle.wb_keys.specs.Needs.{need_named};
+
+use crate::{Kind, Right};
+use deb_text::Text;
+use wb_states::Command;
+
+/// What a command needs, where its line has not the right to everything.
+#[derive(Debug, Drop)]
+pub(crate) enum Need<'a> {
+    Everything,
+    InNameOf(&'a Text),
+    UnderTake(u64),
+    OnArch(&'a Text),
+}
+
+fn need_of(command: &Command) -> Need<'_>
+    ensures { need_named result ≡ need_of command.now }
+{
+    match command {
+        Command::AddArch(_) | Command::AddBuilder(_) | Command::Enter(_) | Command::Merge(_) => {
+            Need::Everything
+        }
+        Command::Next(next) => Need::InNameOf(&next.builder),
+        Command::Take(take) => Need::InNameOf(&take.builder),
+        Command::Built(held) | Command::Uploaded(held) | Command::PutBack(held) => {
+            Need::UnderTake(held.take_number)
+        }
+        Command::Waits(waits) => Need::UnderTake(waits.take_number),
+        Command::Attempted(attempted) => Need::UnderTake(attempted.take_number),
+        Command::GiveBack(back) => Need::OnArch(&back.arch),
+        Command::DepWait(waits) => Need::OnArch(&waits.arch),
+        Command::Fail(aside) | Command::NotForUs(aside) => Need::OnArch(&aside.arch),
+        Command::Rebuild(rebuild) => Need::OnArch(&rebuild.arch),
+        Command::BuildPriority(priority) => Need::OnArch(&priority.arch),
+        Command::Report(report) => Need::OnArch(&report.arch),
+    }
+}
+
+/// Whether nobody holds a take number, or this builder does.
+fn is_own(builder: &Text, holder: Option<&Text>) -> bool
+    ensures { result ≡ is_own builder.now (option_copied holder.entry) }
+{
+    match holder {
+        None => true,
+        Some(holder) => *holder == *builder,
+    }
+}
+
+fn meets(right: &Right, need: &Need<'_>, holder: Option<&Text>) -> bool
+    ensures { result ≡ meets right.now (option_copied holder.entry) (need_named need.now) }
+{
+    match (right, need) {
+        (Right::Operate, _) => true,
+        (Right::Build(builder), Need::InNameOf(name)) => **name == *builder,
+        (Right::Build(builder), Need::UnderTake(_)) => is_own(builder, holder),
+        (Right::Port(arch), Need::OnArch(name)) => **name == *arch,
+        _ => false,
+    }
+}
+
+fn is_for(kind: Kind, right: &Right) -> bool
+    ensures { result ≡ is_for kind right.now }
+{
+    match right {
+        Right::Read => kind == Kind::Query,
+        Right::Build(_) => matches!(kind, Kind::Query | Kind::Builder),
+        Right::Port(_) => matches!(kind, Kind::Query | Kind::Porter),
+        Right::Operate => true,
+    }
+}
+
+/// The take number that a command reports under, or none if it reports under none: whoever asks `may` has to say who
+/// holds it. Takes no memory (this project's own).
+pub fn take_number_of(command: &Command) -> Option<u64>
+    ensures value { result ≡ number_of command.now }
+{
+    match need_of(command) {
+        Need::UnderTake(take_number) => Some(take_number),
+        Need::Everything | Need::InNameOf(_) | Need::OnArch(_) => None,
+    }
+}
+
+/// Whether a line with these rights has one for requests of this kind, which the path of a request says. If it has
+/// none, no body is read. Takes no memory (this project's own).
+pub fn may_ask(rights: &[Right], kind: Kind) -> bool
+    ensures value { result ≡ may_ask_for rights.now kind }
+{
+    rights.iter().any(|right| is_for(kind, right))
+}
+
+fn is_allowed(rights: &[Right], command: &Command, holder: Option<&Text>) -> bool
+    ensures { result ≡ allows rights.now (option_copied holder.entry) command.now }
+{
+    let need = need_of(command);
+    rights.iter().any(|right| meets(right, &need, holder))
+}
+
+/// Whether a line with these rights may give a command, where `holder` holds the take number that the command reports
+/// under: none if nobody does, and for a command that reports under none (`take_number_of`). Takes no memory (this
+/// project's own).
+pub fn may(rights: &[Right], command: &Command, holder: Option<&Text>) -> bool
+    ensures value { result ≡ allows rights.now (option_copied holder.entry) command.now }
+    ensures machine { (machine : Machine) → option_copied holder.entry ≡ holder_for machine command.now
+        → result ≡ may_command rights.now machine command.now }
+{
+    is_allowed(rights, command, holder)
+}
