@@ -1,5 +1,6 @@
 -- What rights allow: what may be asked by its kind, and what the rights of builders and of architectures reach.
-use Rattle.std.proofs.Common.{◌≡◌, ℕ, Bool, true, false, ◌||◌, ◌⊎◌, inl, inr, List, [], ◌∷◌, Option, Some, None, refl, sym, ap, ◌∙◌}
+use Rattle.std.proofs.Common.{◌≡◌, ℕ, Bool, true, false, ◌||◌, ◌⊎◌, inl, inr, List, [], ◌∷◌, Option, Some, None, refl}
+use Rattle.std.proofs.Common.{sym, ap, ◌∙◌}
 use Rattle.std.specs.Prelude.{bytes_eq}
 use Rattle.std.specs.List.{list_any}
 use Rattle.std.proofs.lemmas.Slice.Eq.{bytes_eq-Decides}
@@ -11,7 +12,8 @@ use Rattle.wb_states.specs.Subject.{Source}
 use Rattle.wb_keys.specs.declared.right.Right.{Right}
 use Rattle.wb_keys.specs.declared.right.Right.TheVariants.{Read, Build, Port, Operate}
 use Rattle.wb_keys.specs.Own.{IsForArch, IsOfBuilder}
-use Rattle.wb_keys.specs.Rights.{Need, Everything, InNameOf, UnderTake, OnArch, holder_of, is_for, is_own, kind_for, may_command, meets}
+use Rattle.wb_keys.specs.Rights.{Need, Everything, InNameOf, UnderTake, OnArch, holder_of, is_for, is_own, kind_for}
+use Rattle.wb_keys.specs.Rights.{may_command, meets}
 
 either-true : (a b : Bool) → (a || b) ≡ true → (a ≡ true) ⊎ (b ≡ true)
 either-true true b h = inl refl
@@ -44,7 +46,8 @@ is_nonempty-IsIn x (y ∷ ys) h = refl
 
 -- ---- what may be given may be asked for
 
-pub asked-by-kind : (holder : Option (List ℕ)) (need : Need) (right : Right) → meets right holder need ≡ true → is_for (kind_for need) right ≡ true
+pub asked-by-kind : (holder : Option (List ℕ)) (need : Need) (right : Right) → meets right holder need ≡ true
+    → is_for (kind_for need) right ≡ true
 asked-by-kind holder need Read h = cc
 asked-by-kind holder Everything (Build builder) h = cc
 asked-by-kind holder (InNameOf name) (Build builder) h = refl
@@ -65,22 +68,29 @@ alone false h = h
 same : (one other : List ℕ) → (bytes_eq one other || false) ≡ true → one ≡ other
 same one other h = (bytes_eq-Decides one other).0 (alone (bytes_eq one other) h)
 
-own : (builder : List ℕ) (holder : Option (List ℕ)) → (is_own builder holder || false) ≡ true → (holder ≡ None) ⊎ (holder ≡ Some builder)
+own : (builder : List ℕ) (holder : Option (List ℕ)) → (is_own builder holder || false) ≡ true
+    → (holder ≡ None) ⊎ (holder ≡ Some builder)
 own builder None h = inl refl
 own builder (Some holder) h = inr (ap Some (same holder builder h))
 
-pub of-builder : (builder : List ℕ) (machine : Machine) (command : Command) → may_command (Build builder ∷ []) machine command ≡ true
+pub of-builder : (builder : List ℕ) (machine : Machine) (command : Command)
+    → may_command (Build builder ∷ []) machine command ≡ true
     → IsOfBuilder builder machine command
 of-builder builder machine (of.AddArch fields) h = cc
 of-builder builder machine (of.AddBuilder fields) h = cc
 of-builder builder machine (of.Enter fields) h = cc
 of-builder builder machine (of.Next fields) h = inl (fields, refl, same fields.builder builder h)
 of-builder builder machine (of.Take fields) h = inr (inl (fields, refl, same fields.builder builder h))
-of-builder builder machine (of.Built fields) h = inr (inr (fields.take_number, refl, own builder (holder_of machine fields.take_number) h))
-of-builder builder machine (of.Uploaded fields) h = inr (inr (fields.take_number, refl, own builder (holder_of machine fields.take_number) h))
-of-builder builder machine (of.Waits fields) h = inr (inr (fields.take_number, refl, own builder (holder_of machine fields.take_number) h))
-of-builder builder machine (of.PutBack fields) h = inr (inr (fields.take_number, refl, own builder (holder_of machine fields.take_number) h))
-of-builder builder machine (of.Attempted fields) h = inr (inr (fields.take_number, refl, own builder (holder_of machine fields.take_number) h))
+of-builder builder machine (of.Built fields) h = inr
+    (inr (fields.take_number, refl, own builder (holder_of machine fields.take_number) h))
+of-builder builder machine (of.Uploaded fields) h = inr
+    (inr (fields.take_number, refl, own builder (holder_of machine fields.take_number) h))
+of-builder builder machine (of.Waits fields) h = inr
+    (inr (fields.take_number, refl, own builder (holder_of machine fields.take_number) h))
+of-builder builder machine (of.PutBack fields) h = inr
+    (inr (fields.take_number, refl, own builder (holder_of machine fields.take_number) h))
+of-builder builder machine (of.Attempted fields) h = inr
+    (inr (fields.take_number, refl, own builder (holder_of machine fields.take_number) h))
 of-builder builder machine (of.GiveBack fields) h = cc
 of-builder builder machine (of.DepWait fields) h = cc
 of-builder builder machine (of.Fail fields) h = cc
@@ -93,7 +103,8 @@ of-builder builder machine (of.Report fields) h = cc
 at : (arch name source : List ℕ) → (bytes_eq name arch || false) ≡ true → Source name source ≡ Source arch source
 at arch name source h = ap (λ n. Source n source) (same name arch h)
 
-pub of-porter : (arch : List ℕ) (machine : Machine) (command : Command) → may_command (Port arch ∷ []) machine command ≡ true
+pub of-porter : (arch : List ℕ) (machine : Machine) (command : Command) → may_command (Port arch ∷ []) machine command
+    ≡ true
     → IsForArch arch command
 of-porter arch machine (of.AddArch fields) h = cc
 of-porter arch machine (of.AddBuilder fields) h = cc

@@ -19,7 +19,8 @@ is_equals c = c == code "="
 abbrev pub after_key_chars : List ℕ → List ℕ
 after_key_chars text = drop (prefix_len is_key_char text) text
 
--- a key: 20 to 200 bytes, one or more that may stand before the `=`, and then `=` alone (RFC 6750, section 2.1; the limits are this project's own)
+-- a key: 20 to 200 bytes, one or more that may stand before the `=`, and then `=` alone (RFC 6750, section 2.1; the
+-- limits are this project's own)
 unfoldable pub is_key_text : List ℕ → Bool
 is_key_text text =
     has_length 20 200 text && (begins is_key_char text && list_all is_equals (after_key_chars text))

@@ -1,4 +1,5 @@
--- What a key file means: its lines with a key, the line for requests without one, or its first malformed line (this project's own).
+-- What a key file means: its lines with a key, the line for requests without one, or its first malformed line (this
+-- project's own).
 use Rattle.std.specs.Prelude.{ℕ, ◌+◌, ◌-◌, Bool, not, ◌&&◌, ◌||◌, nat_le, ◌==◌, List, [], ◌∷◌, ◌++◌, length, take, find}
 use Rattle.std.specs.Prelude.{codes, bytes_eq, Option, Some, None, is_some, Result, Ok, Err, if◌then◌else◌}
 use Prim.Native.Char.{code}
@@ -171,7 +172,8 @@ go_on number (Ok keys) later = later keys
 -- what lines come to after others, the first of them of this number; the first that is malformed counts
 abbrev pub keys_after : Keys → ℕ → List (List ℕ) → Result Keys BadLine
 keys_after keys number [] = Ok keys
-keys_after keys number (line ∷ lines) = go_on number (with_line keys (line_of line)) (λ more. keys_after more (number + 1) lines)
+keys_after keys number (line ∷ lines) = go_on number (with_line keys (line_of line))
+    (λ more. keys_after more (number + 1) lines)
 
 -- what a key file means, or its first malformed line: line feeds separate its lines, which are counted from 1
 unfoldable pub keys_of : List ℕ → Result Keys BadLine

@@ -1,4 +1,5 @@
 pub mod Access
+pub mod Examples
 pub mod Key
 pub mod KeyFile
 pub mod Needs

@@ -70,14 +70,16 @@ porter_meets arch (InNameOf name) = false
 porter_meets arch (UnderTake take_number) = false
 porter_meets arch (OnArch name) = bytes_eq name arch
 
--- a right meets what a command needs, where this builder, or nobody, holds the take number that the command reports under
+-- a right meets what a command needs, where this builder, or nobody, holds the take number that the command reports
+-- under
 abbrev pub meets : Right → Option (List ℕ) → Need → Bool
 meets Read holder need = false
 meets (Build builder) holder need = builder_meets builder holder need
 meets (Port arch) holder need = porter_meets arch need
 meets Operate holder need = true
 
--- a line with these rights may give a command, where this builder, or nobody, holds the take number that it reports under
+-- a line with these rights may give a command, where this builder, or nobody, holds the take number that it reports
+-- under
 abbrev pub allows : List Right → Option (List ℕ) → Command → Bool
 allows rights holder command = list_any (λ right. meets right holder (need_of command)) rights
 

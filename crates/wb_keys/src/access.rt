@@ -28,8 +28,8 @@ pub enum Access {
 }
 
 impl Access {
-    /// That of an office without keys: everybody for everything. The only error is that there is no memory for it (this
-    /// project's own).
+    /// That of an office without keys: everybody for everything. The only error is that there is no
+    /// memory for it (this project's own).
     pub fn everybody(alloc: Global) -> Result<Access, AllocError>
         ensures value { IfOk result (λ access. access ≡ everybody) }
     {
@@ -38,9 +38,9 @@ impl Access {
         Ok(Access::Everybody(rights))
     }
 
-    /// The rights of a request that shows this of a key. None if it is refused for its lack of a key: it shows nothing
-    /// and there is no line `*`, or it shows a key that is malformed or on no line, whatever the line `*` allows. Takes
-    /// no memory (this project's own).
+    /// The rights of a request that shows this of a key. None if it is refused for its lack of a
+    /// key: it shows nothing and there is no line `*`, or it shows a key that is malformed or on no
+    /// line, whatever the line `*` allows. Takes no memory (this project's own).
     pub fn rights_of(&self, shown: &Shown) -> Option<&[Right]>
         ensures value { option_copied result ≡ rights_of self.now shown.now }
     {
@@ -55,8 +55,8 @@ impl Access {
         }
     }
 
-    /// The name on the line of a request that shows this of a key, or none if it has no such line. Takes no memory (this
-    /// project's own).
+    /// The name on the line of a request that shows this of a key, or none if it has no such line.
+    /// Takes no memory (this project's own).
     pub fn name_of(&self, shown: &Shown) -> Option<&Text>
         ensures value { option_copied result ≡ name_of self.now shown.now }
     {

@@ -2,7 +2,8 @@
 ghost use Rattle.std.specs.Prelude.{◌≡◌, ◌↔◌, true};
 ghost use Rattle.std.specs.Option.{option_copied};
 ghost use Rattle.wb_states.specs.Machine.{Machine};
-ghost use Rattle.wb_keys.specs.Rights.{allows, holder_for, is_for, is_own, may_ask_for, may_command, meets, need_of, number_of};
+ghost use Rattle.wb_keys.specs.Rights.{allows, holder_for, is_for, is_own, may_ask_for};
+ghost use Rattle.wb_keys.specs.Rights.{may_command, meets, need_of, number_of};
 ghost use Rattle.wb_keys.specs.Needs.{need_named};
 
 use crate::{Kind, Right};
@@ -74,8 +75,8 @@ fn is_for(kind: Kind, right: &Right) -> bool
     }
 }
 
-/// The take number that a command reports under, or none if it reports under none: whoever asks `may` has to say who
-/// holds it. Takes no memory (this project's own).
+/// The take number that a command reports under, or none if it reports under none: whoever asks
+/// `may` has to say who holds it. Takes no memory (this project's own).
 pub fn take_number_of(command: &Command) -> Option<u64>
     ensures value { result ≡ number_of command.now }
 {
@@ -85,8 +86,8 @@ pub fn take_number_of(command: &Command) -> Option<u64>
     }
 }
 
-/// Whether a line with these rights has one for requests of this kind, which the path of a request says. If it has
-/// none, no body is read. Takes no memory (this project's own).
+/// Whether a line with these rights has one for requests of this kind, which the path of a request
+/// says. If it has none, no body is read. Takes no memory (this project's own).
 pub fn may_ask(rights: &[Right], kind: Kind) -> bool
     ensures value { result ≡ may_ask_for rights.now kind }
 {
@@ -100,12 +101,13 @@ fn is_allowed(rights: &[Right], command: &Command, holder: Option<&Text>) -> boo
     rights.iter().any(|right| meets(right, &need, holder))
 }
 
-/// Whether a line with these rights may give a command, where `holder` holds the take number that the command reports
-/// under: none if nobody does, and for a command that reports under none (`take_number_of`). Takes no memory (this
-/// project's own).
+/// Whether a line with these rights may give a command, where `holder` holds the take number that
+/// the command reports under: none if nobody does, and for a command that reports under none
+/// (`take_number_of`). Takes no memory (this project's own).
 pub fn may(rights: &[Right], command: &Command, holder: Option<&Text>) -> bool
     ensures value { result ≡ allows rights.now (option_copied holder.entry) command.now }
-    ensures machine { (machine : Machine) → option_copied holder.entry ≡ holder_for machine command.now
+    ensures machine { (machine : Machine)
+        → option_copied holder.entry ≡ holder_for machine command.now
         → result ≡ may_command rights.now machine command.now }
 {
     is_allowed(rights, command, holder)

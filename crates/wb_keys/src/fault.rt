@@ -9,7 +9,7 @@ pub enum LineFault {
     #[error("the line is not UTF-8")]
     NotText,
     /// Its name is malformed.
-    #[error("the name is malformed: it has 1 to 64 letters, digits, '.', '_' and '-', the first a letter or a digit")]
+    #[error("the name is malformed: 1 to 64 of A-Z a-z 0-9 . _ -, first a letter or a digit")]
     BadName,
     /// It does not end with a hash, or not in its form.
     #[error("the line does not end with a hash of 64 lower-case hexadecimal digits")]

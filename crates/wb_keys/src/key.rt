@@ -31,9 +31,9 @@ fn ends_with_equals_alone(text: &[u8]) -> bool
         .all(|byte| *byte == b'=')
 }
 
-/// Whether `text` has the form of a key: 20 to 200 bytes, letters, digits, `-`, `.`, `_`, `~`, `+` and `/`, at least
-/// one, and then nothing but `=`, which counts too. Takes no memory (RFC 6750, section 2.1; the limits are this
-/// project's own).
+/// Whether `text` has the form of a key: 20 to 200 bytes, letters, digits, `-`, `.`, `_`, `~`, `+`
+/// and `/`, at least one, and then nothing but `=`, which counts too. Takes no memory (RFC 6750,
+/// section 2.1; the limits are this project's own).
 #[tactic(auto, unfolding(crate::specs::Key::is_key_text))]
 pub fn is_key_form(text: &[u8]) -> bool
     ensures value { result ≡ is_key_text text.now }
@@ -42,7 +42,8 @@ pub fn is_key_form(text: &[u8]) -> bool
         && (begins_with_key_char(text) && ends_with_equals_alone(text))
 }
 
-/// The hash of a key, by which it is found: its SHA-256 digest (FIPS 180-4, section 6.2). Takes no memory.
+/// The hash of a key, by which it is found: its SHA-256 digest (FIPS 180-4, section 6.2). Takes no
+/// memory.
 pub fn hash_of_key(text: &[u8]) -> [u8; 32]
     ensures value { result ≡ sha256 text.now }
 {

@@ -4,10 +4,14 @@ ghost use Rattle.std.specs.List.{list_all, list_any, slice_split};
 ghost use Rattle.std.specs.Str.{is_utf8};
 ghost use Rattle.deb_text.specs.Lines.{is_line_feed, words_in};
 ghost use Rattle.deb_text.specs.Lists.{begins};
-ghost use Rattle.wb_keys.specs.KeyFile.{all_rights, anyone_line, builder_right, front_of, has_hash, has_name};
-ghost use Rattle.wb_keys.specs.KeyFile.{hash_of, is_hash_digit, is_number_sign, key_limit, keyed_line, keys_of};
-ghost use Rattle.wb_keys.specs.KeyFile.{last_hash, line_of, line_of_words, line_with, named_right, no_keys};
-ghost use Rattle.wb_keys.specs.KeyFile.{porter_right, right_of, rights_in, with_anyone, with_key, with_line, with_said};
+ghost use Rattle.wb_keys.specs.KeyFile.{all_rights, anyone_line, builder_right, front_of, has_hash};
+ghost use Rattle.wb_keys.specs.KeyFile.{has_name};
+ghost use Rattle.wb_keys.specs.KeyFile.{hash_of, is_hash_digit, is_number_sign, key_limit};
+ghost use Rattle.wb_keys.specs.KeyFile.{keyed_line, keys_of};
+ghost use Rattle.wb_keys.specs.KeyFile.{last_hash, line_of, line_of_words, line_with, named_right};
+ghost use Rattle.wb_keys.specs.KeyFile.{no_keys};
+ghost use Rattle.wb_keys.specs.KeyFile.{porter_right, right_of, rights_in, with_anyone, with_key};
+ghost use Rattle.wb_keys.specs.KeyFile.{with_line, with_said};
 
 use crate::{BadLine, KeyLine, Keys, LineFault, Right};
 use deb_text::{Items, Text};
@@ -268,8 +272,8 @@ fn has_hash(keys: &Keys, hash: &[u8; 32]) -> bool
 }
 
 // Each line is compared with those before it: 1,000 lines are 500,000 comparisons, which take a few
-// milliseconds once, and each is proved to be that of the definition. A sorted table would be quicker
-// and harder to prove.
+// milliseconds once, and each is proved to be that of the definition. A sorted table would be
+// quicker and harder to prove.
 /// Lines, and one more with a key.
 fn with_key(keys: Keys, line: KeyLine) -> Result<Result<Keys, LineFault>, AllocError>
     ensures { IfOk result (λ found. found ≡ with_key keys line) }
@@ -325,20 +329,22 @@ fn with_line(alloc: Global, keys: Keys, line: &[u8]) -> Result<Result<Keys, Line
 
 /// The lines of a file, which line feeds separate.
 fn lines_in<'a>(alloc: Global, file: &'a [u8]) -> Result<Vec<&'a [u8]>, AllocError>
-    ensures { IfOk result (λ lines. map (λ line. line.now) lines.items ≡ slice_split is_line_feed file.entry.now) }
+    ensures { IfOk result (λ lines.
+        map (λ line. line.now) lines.items ≡ slice_split is_line_feed file.entry.now) }
 {
     file.split(|byte| *byte == b'\n').collect(alloc)
 }
 
 impl Keys {
-    /// Reads a key file. Its lines are `NAME RIGHT.. HASH`, or `* RIGHT..` for requests without a key; spaces and tabs
-    /// separate words. NAME has the form of a builder's name, a RIGHT is `read`, `build=BUILDER`, `port=ARCH` or
-    /// `operate`, and HASH is the SHA-256 digest of a key in 64 lower-case hexadecimal digits. Each line has a right or
-    /// more; each name, each hash and the line `*` stand once; at most 1000 lines have a key. Lines of spaces and tabs
-    /// alone and lines that begin with `#` are skipped.
+    /// Reads a key file. Its lines are `NAME RIGHT.. HASH`, or `* RIGHT..` for requests without a
+    /// key; spaces and tabs separate words. NAME has the form of a builder's name, a RIGHT is
+    /// `read`, `build=BUILDER`, `port=ARCH` or `operate`, and HASH is the SHA-256 digest of a key
+    /// in 64 lower-case hexadecimal digits. Each line has a right or more; each name, each hash and
+    /// the line `*` stand once; at most 1000 lines have a key. Lines of spaces and tabs alone and
+    /// lines that begin with `#` are skipped.
     ///
-    /// The inner error is the first line that is malformed, or not UTF-8, with its number, counted from 1. The outer
-    /// one is that there is no memory. The bytes are left as they are.
+    /// The inner error is the first line that is malformed, or not UTF-8, with its number, counted
+    /// from 1. The outer one is that there is no memory. The bytes are left as they are.
     /// Source: this project's own; FIPS 180-4 for the digest.
     #[tactic(auto, unfolding(crate::specs::KeyFile::keys_of))]
     pub fn read(alloc: Global, file: &[u8]) -> Result<Result<Keys, BadLine>, AllocError>

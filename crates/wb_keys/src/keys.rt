@@ -34,7 +34,8 @@ fn has_hash(line: &KeyLine, hash: &[u8; 32]) -> bool
 
 impl Keys {
     // A scan, since 1,000 comparisons of which nearly all end at the first byte take a few
-    // microseconds. How long a comparison takes says nothing of a key, whose hash nobody can choose.
+    // microseconds. How long a comparison takes says nothing of a key, whose hash nobody can
+    // choose.
     /// The line with this hash, or none if no line has it. Takes no memory (this project's own).
     #[tactic(auto, unfolding(crate::specs::KeyFile::line_by_hash))]
     pub fn line_by_hash(&self, hash: &[u8; 32]) -> Option<&KeyLine>
@@ -46,7 +47,8 @@ impl Keys {
             .find(|line| has_hash(line, hash))
     }
 
-    /// The rights of the line with this hash, or none if no line has it. Takes no memory (this project's own).
+    /// The rights of the line with this hash, or none if no line has it. Takes no memory (this
+    /// project's own).
     pub fn rights_by_hash(&self, hash: &[u8; 32]) -> Option<&[Right]>
         ensures value { option_copied result ≡ rights_by_hash self.now hash.now }
     {

@@ -7,8 +7,8 @@ use deb_text::Text;
 pub enum Right {
     /// `read`: every query.
     Read,
-    /// `build=BUILDER`: to take source packages in the name of this builder, and to report under the
-    /// take numbers that it holds or nobody holds.
+    /// `build=BUILDER`: to take source packages in the name of this builder, and to report under
+    /// the take numbers that it holds or nobody holds.
     Build(Text),
     /// `port=ARCH`: to move the source packages of this architecture.
     Port(Text),

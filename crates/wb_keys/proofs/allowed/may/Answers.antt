@@ -4,4 +4,5 @@ use Rattle.wb_keys.specs.Rights.{allows}
 use Rattle.wb_keys.proofs.allowed.may.Goals as goal
 
 pub returns-clause-machine : goal.returns-clause-machine
-returns-clause-machine c = λ machine same. c.is_allowed.ensures ∙ ap (λ holder. allows c.args.rights.now holder c.args.command.now) same
+returns-clause-machine c = λ machine same. c.is_allowed.ensures
+    ∙ ap (λ holder. allows c.args.rights.now holder c.args.command.now) same

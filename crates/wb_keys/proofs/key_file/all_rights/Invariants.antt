@@ -5,4 +5,5 @@ use Rattle.wb_keys.proofs.key_file.all_rights.Given as goal
 
 abbrev pub invariant-loop-word : goal.invariant-loop-word
 invariant-loop-word l =
-    all_rights (map (λ w. w.now) l.words) ≡ rights_after l.rights (all_rights (map (λ w. w.now) (drop l.word-index l.words)))
+    all_rights (map (λ w. w.now) l.words) ≡ rights_after l.rights
+    (all_rights (map (λ w. w.now) (drop l.word-index l.words)))

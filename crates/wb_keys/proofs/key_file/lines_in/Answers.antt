@@ -7,4 +7,5 @@ use Rattle.wb_keys.proofs.key_file.lines_in.Goals as goal
 
 pub returns : goal.returns
 returns c = map_from_collect _ c.collect.ensures.ran
-    (YieldsList-from_slice_split _ is_line_feed c.args.file.now c.split.ensures.rest c.split.ensures.done c.split.ensures.closure (λ x b q k. search (rules, tests)))
+    (YieldsList-from_slice_split _ is_line_feed c.args.file.now c.split.ensures.rest c.split.ensures.done
+    c.split.ensures.closure (λ x b q k. search (rules, tests)))
