@@ -7,13 +7,15 @@ use Rattle.std.proofs.lemmas.Slice.Eq.{bytes_eq-Decides}
 use Rattle.deb_text.specs.Lists.{IsIn, is_nonempty}
 use Rattle.wb_states.specs.declared.command.Command.{Command}
 use Rattle.wb_states.specs.declared.command.Command.TheVariants as of
+use Rattle.wb_states.specs.declared.query.Query.{Query}
 use Rattle.wb_states.specs.Machine.{Machine}
 use Rattle.wb_states.specs.Subject.{Source}
 use Rattle.wb_keys.specs.declared.right.Right.{Right}
 use Rattle.wb_keys.specs.declared.right.Right.TheVariants.{Read, Build, Port, Operate}
 use Rattle.wb_keys.specs.Own.{IsForArch, IsOfBuilder}
-use Rattle.wb_keys.specs.Rights.{Need, Everything, InNameOf, UnderTake, OnArch, holder_of, is_for, is_own, kind_for}
-use Rattle.wb_keys.specs.Rights.{may_command, meets}
+use Rattle.wb_keys.specs.declared.right.Kind.TheVariants as kind
+use Rattle.wb_keys.specs.Rights.{Need, Everything, InNameOf, UnderTake, OnArch, holder_for, holder_of, is_for, is_own}
+use Rattle.wb_keys.specs.Rights.{kind_for, kind_of, may_ask_for, may_command, may_query, meets, need_of}
 
 either-true : (a b : Bool) → (a || b) ≡ true → (a ≡ true) ⊎ (b ≡ true)
 either-true true b h = inl refl
@@ -58,6 +60,45 @@ asked-by-kind holder (InNameOf name) (Port arch) h = cc
 asked-by-kind holder (UnderTake take_number) (Port arch) h = cc
 asked-by-kind holder (OnArch name) (Port arch) h = refl
 asked-by-kind holder need Operate h = refl
+
+-- ---- what the kind alone decides
+
+-- two tests that agree on each item agree on a list
+list_any-same : {X : Type 0} (p q : X → Bool) → ((x : X) → p x ≡ q x) → (xs : List X) → list_any p xs ≡ list_any q xs
+list_any-same p q same [] = refl
+list_any-same p q same (x ∷ xs) =
+    ap (λ b. b || list_any p xs) (same x) ∙ ap (λ b. q x || b) (list_any-same p q same xs)
+
+query-asks : (right : Right) → is_for kind.Query right ≡ true
+query-asks Read = refl
+query-asks (Build builder) = refl
+query-asks (Port arch) = refl
+query-asks Operate = refl
+
+pub queries : (rights : List Right) (query : Query) → may_query rights query ≡ may_ask_for rights kind.Query
+queries [] query = refl
+queries (right ∷ rights) query = sym (ap (λ b. b || list_any (is_for kind.Query) rights) (query-asks right))
+
+needs-everything : (need : Need) → kind_for need ≡ kind.Operator → need ≡ Everything
+needs-everything Everything h = refl
+needs-everything (InNameOf name) h = cc
+needs-everything (UnderTake take_number) h = cc
+needs-everything (OnArch name) h = cc
+
+everything-asks : (holder : Option (List ℕ)) (right : Right)
+    → meets right holder Everything ≡ is_for kind.Operator right
+everything-asks holder Read = refl
+everything-asks holder (Build builder) = refl
+everything-asks holder (Port arch) = refl
+everything-asks holder Operate = refl
+
+pub of-operator : (rights : List Right) (machine : Machine) (command : Command) → kind_of command ≡ kind.Operator
+    → may_command rights machine command ≡ may_ask_for rights kind.Operator
+of-operator rights machine command h =
+    let holder = holder_for machine command in
+    let same : (right : Right) → meets right holder (need_of command) ≡ is_for kind.Operator right =
+    λ right. ap (meets right holder) (needs-everything (need_of command) h) ∙ everything-asks holder right in
+    list_any-same (λ right. meets right holder (need_of command)) (is_for kind.Operator) same rights
 
 -- ---- one right alone
 

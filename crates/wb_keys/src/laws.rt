@@ -13,6 +13,7 @@ ghost use Rattle.wb_keys.specs.declared.fault.LineFault.TheVariants.{NoRight, Un
 ghost use Rattle.wb_keys.specs.declared.keys.KeyLine.{KeyLine};
 ghost use Rattle.wb_keys.specs.declared.keys.Keys.{Keys};
 ghost use Rattle.wb_keys.specs.declared.right.Kind.{Kind};
+ghost use Rattle.wb_keys.specs.declared.right.Kind.TheVariants as kind;
 ghost use Rattle.wb_keys.specs.declared.right.Right.{Right};
 ghost use Rattle.wb_keys.specs.declared.right.Right.TheVariants.{Build, Operate, Port, Read};
 ghost use Rattle.wb_keys.specs.Access.{everybody, rights_of};
@@ -28,6 +29,22 @@ ghost use Rattle.wb_keys.specs.Own.{IsForArch, IsOfBuilder};
 pub fn allowed_commands_may_be_asked_for()
     ensures { (rights : List Right) (machine : Machine) (command : Command)
         → may_command rights machine command ≡ true → may_ask_for rights (kind_of command) ≡ true }
+{}
+
+/// Who has a right may ask every query, and the path of a query says so.
+/// Source: this project's own.
+pub fn queries_are_allowed_by_their_kind()
+    ensures { (rights : List Right) (query : Query)
+        → may_query rights query ≡ may_ask_for rights kind.Query }
+{}
+
+/// Of a command that needs `operate`, such as a merge, the path says whether it is allowed: nothing
+/// of its body counts.
+/// Source: this project's own.
+pub fn commands_of_operators_are_allowed_by_their_kind()
+    ensures { (rights : List Right) (machine : Machine) (command : Command)
+        → kind_of command ≡ kind.Operator
+        → may_command rights machine command ≡ may_ask_for rights kind.Operator }
 {}
 
 /// The right `operate` allows everything: each kind of request, each command and each query; and so
