@@ -271,8 +271,8 @@ fn has_hash(keys: &Keys, hash: &[u8; 32]) -> bool
     keys.lines.as_slice().iter().any(|line| line.hash == *hash)
 }
 
-// Each line is compared with those before it: a file of 1,000 lines is read in some 40 milliseconds,
-// once. A sorted table would be quicker, and its proof longer.
+// Each line is compared with those before it: a file of 1,000 lines is read in some 40
+// milliseconds, once. A sorted table would be quicker, and its proof longer.
 /// Lines, and one more with a key.
 fn with_key(keys: Keys, line: KeyLine) -> Result<Result<Keys, LineFault>, AllocError>
     ensures { IfOk result (λ found. found ≡ with_key keys line) }

@@ -33,9 +33,9 @@ fn has_hash(line: &KeyLine, hash: &[u8; 32]) -> bool
 }
 
 impl Keys {
-    // A scan: 1,000 lines take some eight microseconds, since nearly all comparisons end at the first
-    // byte. How long one takes says nothing of a key, since nobody can choose what its hash begins
-    // with.
+    // A scan: 1,000 lines take some eight microseconds, since nearly all comparisons end at the
+    // first byte. How long one takes says nothing of a key, since nobody can choose what its hash
+    // begins with.
     /// The line with this hash, or none if no line has it. Takes no memory (this project's own).
     #[tactic(auto, unfolding(crate::specs::KeyFile::line_by_hash))]
     pub fn line_by_hash(&self, hash: &[u8; 32]) -> Option<&KeyLine>
