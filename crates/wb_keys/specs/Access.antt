@@ -1,4 +1,4 @@
--- Who may ask an office for what: everybody, or who has a key (this project's own).
+-- Who may ask an office for what: everybody, or who has a key.
 use Rattle.std.specs.Prelude.{ℕ, List, [], ◌∷◌, Option, Some, None}
 use Rattle.std.specs.Option.{option_map}
 use Rattle.wb_keys.specs.declared.access.Access.{Access}

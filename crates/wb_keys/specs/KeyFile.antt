@@ -1,5 +1,4 @@
--- What a key file means: its lines with a key, the line for requests without one, or its first malformed line (this
--- project's own).
+-- What a key file means: its lines with a key, the line for requests without one, or its first malformed line.
 use Rattle.std.specs.Prelude.{ℕ, ◌+◌, ◌-◌, Bool, not, ◌&&◌, ◌||◌, nat_le, ◌==◌, List, [], ◌∷◌, ◌++◌, length, take, find}
 use Rattle.std.specs.Prelude.{codes, bytes_eq, Option, Some, None, is_some, Result, Ok, Err, if◌then◌else◌}
 use Prim.Native.Char.{code}

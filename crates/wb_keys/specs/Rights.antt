@@ -1,4 +1,4 @@
--- Who may ask an office for what, by the rights of a line of its key file (this project's own).
+-- Who may ask an office for what, by the rights of a line of its key file.
 use Rattle.std.specs.Prelude.{ℕ, Bool, true, false, List, bytes_eq, Option, Some, None}
 use Rattle.std.specs.List.{list_any}
 use Rattle.std.specs.Option.{option_and_then}
