@@ -655,9 +655,46 @@ def reads_what_the_program_writes(folder):
     return f"{len(accepted)} lines"
 
 
+# Lines of a journal that say who gave the commands, as far as that is known.
+WITH_NAMES = """\
+{"accepted":1,"answer":{"accepted":1,"ok":"enter"},"command":{"arch":"amd64","command":"enter","priority":"optional",\
+"section":"devel","source":"hello","version":"1.0-1"},"time":"2026-04-10T08:00:00Z"}
+{"accepted":2,"answer":{"accepted":2,"ok":"fail"},"by":"anna","command":{"arch":"amd64","command":"fail",\
+"note":"no","source":"hello","version":"1.0-1"},"time":"2026-04-10T09:00:00Z"}
+{"accepted":3,"answer":{"accepted":3,"ok":"give-back"},"by":"otto.2","command":{"arch":"amd64","command":"give-back",\
+"source":"hello","version":"1.0-1"},"time":"2026-04-10T10:00:00Z"}
+{"accepted":4,"answer":{"accepted":4,"ok":"give-back"},"by":null,"command":{"arch":"amd64","command":"give-back",\
+"source":"hello","version":"1.0-1"},"time":"2026-04-10T10:30:00Z"}
+{"accepted":5,"answer":{"accepted":5,"ok":"merge","parts":[{"added":0,"arch":"amd64","changed":1,"kept":0,\
+"removed":0}]},"by":"operator","command":{"command":"merge","parts":[{"arch":"amd64"}]},"time":"2026-04-10T11:00:00Z"}
+"""
+
+
+def names_who_gave_each_command(folder):
+    """`package` has who gave each command and each merge, as a column and in JSON, also by the index; a
+    journal that names nobody has no such column."""
+    (folder / "journal").write_text(WITH_NAMES)
+    asked = ("journal", "package", "amd64", "hello", "--merges")
+    shown, rows = call(folder, *asked), call(folder, *asked, "--json")
+    met = [(row["command"], row["by"]) for row in map(json.loads, rows.splitlines())]
+    wanted = [
+        ("enter", None), ("fail", "anna"), ("give-back", "otto.2"), ("give-back", None), ("merge", "operator"),
+    ]
+    expect(met == wanted, f"{met}")
+    expect(" BY " in shown.splitlines()[1], shown)
+    expect(all(shown.count(name) == 1 for name in ("anna", "otto.2", "operator")), shown)
+    expect(re.search("^2026-04-10 09:00:00 +fail +Failed .*anna .*no$", shown, re.M), shown)
+    call(folder, "journal", "index")
+    expect((folder / "journal.index").exists(), "there is no index")
+    expect(call(folder, *asked) == shown and call(folder, *asked, "--json") == rows, "the index says otherwise")
+    (folder / "old").write_text(re.sub('"by":("[a-z0-9.]*"|null),', "", WITH_NAMES))
+    shown = call(folder, "old", *asked[1:])
+    expect(" BY " not in shown.splitlines()[1] and shown.count("give-back") == 2, shown)
+
+
 TESTS = [
-    follows_a_package, says_how_old_things_are, fits_a_terminal, says_what_builders_did, suspects_what_hangs,
-    counts_by_day, finds_gaps,
+    follows_a_package, names_who_gave_each_command, says_how_old_things_are, fits_a_terminal, says_what_builders_did,
+    suspects_what_hangs, counts_by_day, finds_gaps,
 ]
 TESTS += [
     goes_on_after_a_cut_line, reports_malformed_lines, takes_the_words_that_it_says, is_quick, asks_a_serving_office,
