@@ -79,7 +79,8 @@ one-at-most : (earlier : Bool) → cond earlier 0 1 ≤ 1
 one-at-most true = omega arith
 one-at-most false = omega arith
 
--- the parts of one rank after those of another: how far the build priority is from the greatest one, newness, priority and section
+-- the parts of one rank after those of another: how far the build priority is from the greatest one, newness, priority
+-- and section
 ranks-in-turn : (b n p s c m q t : ℕ) → n ≤ 1 → m ≤ 1 → p ≤ 5 → q ≤ 5 → s ≤ 28 → t ≤ 28
     → ordering_then (nat_cmp b c) (ordering_then (nat_cmp n m) (ordering_then (nat_cmp p q) (nat_cmp s t)))
     ≡ nat_cmp (b * 348 + (n * 6 + p) * 29 + s) (c * 348 + (m * 6 + q) * 29 + t)

@@ -1,5 +1,6 @@
 -- Which records builders hold, and under which take numbers.
 use Rattle.std.specs.Prelude.{◌≡◌, ◌<◌, ℕ, Bool, ◌&&◌, List, filter, nat_eq, nat_lt, bytes_eq, Option, Some, find, unwrap_or}
+use Rattle.std.specs.Option.{option_and_then}
 use Rattle.std.specs.declared.cmp.Ordering.{Ordering}
 use Rattle.std.specs.Ordering.{nat_cmp, on}
 use Rattle.std.specs.FinMap as finite
@@ -17,6 +18,10 @@ is_taken_as take_number entry = has_value (nat_eq take_number) entry.1.take
 -- the first record, by architecture and source package, that is held under the take number (this project's own)
 unfoldable pub taken_as : Machine → ℕ → Option Entry
 taken_as machine take_number = first_of (filter (is_taken_as take_number) (finite.entries machine.records))
+
+-- the holder of the record that is held under the take number, or none if nobody holds it
+unfoldable pub holder_of : Machine → ℕ → Option (List ℕ)
+holder_of machine take_number = option_and_then (λ (entry : Entry). entry.1.holder) (taken_as machine take_number)
 
 -- a record that the builder holds
 abbrev pub is_held_by : List ℕ → Entry → Bool

@@ -26,7 +26,8 @@ Key = List ℕ × List ℕ
 -- rows of tables are the entries of these maps, and so is the part of the state that a command is carried out on in
 -- memory.
 
--- the state of the office: records by architecture and source package, the words of architectures, who builds for which, and two counts
+-- the state of the office: records by architecture and source package, the words of architectures, who builds for
+-- which, and two counts
 pub record Machine : Type 0 where
   pub records : map.FinMap pair_cmp Record
   pub archs : map.FinMap text_cmp OsCpu
@@ -103,7 +104,8 @@ pub record IsBuilder (machine : Machine) (builder arch : List ℕ) : Type 0 wher
   pub name : IsTrue (is_builder_name builder)
   pub known : IsTrue (map.contains_key machine.archs arch)
 
--- a record has its form, its architecture is there, its holder may build for it, its waits are reduced for it, and its take number was given
+-- a record has its form, its architecture is there, its holder may build for it, its waits are reduced for it, and its
+-- take number was given
 pub record IsRecord (machine : Machine) (arch source : List ℕ) (current : Record) : Type 0 where
   pub name : IsTrue (is_package_name source)
   pub known : IsTrue (map.contains_key machine.archs arch)
@@ -119,7 +121,8 @@ HasDistinctTakes machine =
     → map.get machine.records one ≡ Some first → map.get machine.records other ≡ Some second
     → first.take ≡ Some take_number → second.take ≡ Some take_number → one ≡ other
 
--- the invariant of the office: what is kept has its form, a record has at most one holder, which may build for it, no take number is held twice
+-- the invariant of the office: what is kept has its form, a record has at most one holder, which may build for it, no
+-- take number is held twice
 pub record IsConsistent (machine : Machine) : Type 0 where
   pub archs : (name : List ℕ) → IfSome (map.get machine.archs name) (IsArch name)
   pub builders : (builder arch : List ℕ) → IsTrue (set.contains machine.builders (builder, arch)) → IsBuilder machine builder arch

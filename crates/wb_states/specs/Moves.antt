@@ -1,5 +1,5 @@
--- The moves of a record from state to state, and what each sets (in wanna-build's terms).
--- The table of moves is read here column by column: the states from which a move goes, the state in which it ends, and what it sets.
+-- The moves of a record from state to state, and what each sets (in wanna-build's terms). The table of moves is read
+-- here column by column: the states from which a move goes, the state in which it ends, and what it sets.
 use Rattle.std.specs.Prelude.{ℕ, Bool, true, not, nat_eq, nat_le, nat_lt, IsTrue, List, [], ◌∷◌, ◌++◌, length, codes, Option, Some, None, Result, if◌then◌else◌}
 use Rattle.std.specs.List.{list_any}
 use Rattle.std.specs.Fmt.{decimal}
@@ -113,7 +113,8 @@ abbrev pub has_higher_number : Move → Record → Bool
 has_higher_number (Rebuild number message) current = nat_lt current.number number
 has_higher_number _ current = true
 
--- what is known before a move takes memory: it goes from the record's state, and its number, if it has one, is above the record's
+-- what is known before a move takes memory: it goes from the record's state, and its number, if it has one, is above
+-- the record's
 abbrev pub MayWantMemory : Move → Record → Type 0
 MayWantMemory move current = IsTrue (may_go move current.state) × IsTrue (has_higher_number move current)
 

@@ -14,12 +14,14 @@ has_length least most text = nat_le least (length text) && nat_le (length text) 
 abbrev pub is_no_single_arch : List ℕ → Bool
 is_no_single_arch text = bytes_eq text (codes "all") || (bytes_eq text (codes "any") || bytes_eq text (codes "source"))
 
--- the name of an architecture: 1 to 40 lower-case letters, digits and `-`, the first no `-`, and none of the words that name no single one (this project's own)
+-- the name of an architecture: 1 to 40 lower-case letters, digits and `-`, the first no `-`, and none of the words that
+-- name no single one (this project's own)
 unfoldable pub is_arch_name : List ℕ → Bool
 is_arch_name text =
     has_length 1 40 text && (is_arch_word text && not (is_no_single_arch text))
 
--- the word of an operating system or a processor: 1 to 20 lower-case letters and digits, and not `any` (this project's own)
+-- the word of an operating system or a processor: 1 to 20 lower-case letters and digits, and not `any` (this project's
+-- own)
 unfoldable pub is_os_cpu_word : List ℕ → Bool
 is_os_cpu_word text = has_length 1 20 text && (list_all is_lower_or_digit text && not (bytes_eq text (codes "any")))
 
@@ -31,7 +33,8 @@ is_builder_char c = is_ascii_alphanumeric c || (nat_eq c (code ".") || (nat_eq c
 unfoldable pub is_builder_name : List ℕ → Bool
 is_builder_name text = has_length 1 64 text && (begins is_ascii_alphanumeric text && list_all is_builder_char text)
 
--- a priority or a section: 1 to 64 bytes that can be seen, from `!` to `~` (Debian Policy 2.5 and 2.4; the form is this project's own)
+-- a priority or a section: 1 to 64 bytes that can be seen, from `!` to `~` (Debian Policy 2.5 and 2.4; the form is this
+-- project's own)
 unfoldable pub is_label_text : List ℕ → Bool
 is_label_text text = has_length 1 64 text && list_all is_ascii_graphic text
 

@@ -1,4 +1,5 @@
--- What the office answers to a query, by its state: records, relations, counts, or a refusal, the first in the one order.
+-- What the office answers to a query, by its state: records, relations, counts, or a refusal, the first in the one
+-- order.
 use Rattle.std.specs.Prelude.{ℕ, Bool, false, not, ◌||◌, List, [], map as each, Option, Some, None, is_none, Result, Ok}
 use Rattle.std.specs.Prelude.{Err, if◌then◌else◌}
 use Rattle.std.specs.FinMap as map
@@ -111,8 +112,8 @@ listed_in (Office accepted handed) = []
 listed_in (Archs accepted archs) = []
 listed_in (Builders accepted pairs) = []
 
--- what the office answers to a query: the queue of an architecture, its records in a state, or how many are in each; the record of a source package there, or what
--- it needs to be built; what a builder holds, of all architectures, by take number; or its two counts, its
--- architectures or its builders
+-- what the office answers to a query: the queue of an architecture, its records in a state, or how many are in each;
+-- the record of a source package there, or what it needs to be built; what a builder holds, of all architectures, by
+-- take number; or its two counts, its architectures or its builders
 unfoldable pub answer_of : Machine → Query → Result Answer Refusal
 answer_of machine asked = if has_malformed_name asked then Err BadName else answer_in machine asked

@@ -52,7 +52,8 @@ place_of current source = record {
   name = source;
 }
 
--- by build priority, the greatest first, then what was built earlier before what is new, by priority, by section, and by the bytes of the name (that the build priority comes first is this project's own)
+-- by build priority, the greatest first, then what was built earlier before what is new, by priority, by section, and
+-- by the bytes of the name (that the build priority comes first is this project's own)
 abbrev pub place_cmp : Place → Place → Ordering
 place_cmp =
     then_cmp (on (λ p. p.build_priority) (flip_args int_cmp))
@@ -74,7 +75,8 @@ below_greatest current = nat_abs (pos 1000 -ℤ current.build_priority)
 abbrev pub newness : Record → ℕ
 newness current = if current.earlier then 0 else 1
 
--- the number by which the tables order the records of an architecture: for each step of build priority there are 348 places, of priorities and sections
+-- the number by which the tables order the records of an architecture: for each step of build priority there are 348
+-- places, of priorities and sections
 abbrev pub rank_of : Record → ℕ
 rank_of current =
     let place = place_of current [] in

@@ -54,8 +54,8 @@ pub struct Next {
     /// The builder.
     pub builder: Text,
     /// A take number that the builder knows of: the least later one under which it builds for the
-    /// architecture, if there is one, is reported to it again, so a builder that was never answered learns
-    /// what it holds.
+    /// architecture, if there is one, is reported to it again, so a builder that was never answered
+    /// learns what it holds.
     pub after: Option<u64>,
 }
 

@@ -33,8 +33,8 @@ ghost use Rattle.wb_states.specs.Lookups.{counts_of, rows_in, rows_of, total_of}
 ghost use Rattle.wb_states.specs.State.{code_of, is_held, name_of, states};
 ghost use Rattle.wb_states.specs.MoveTable.{HasForm, row_of};
 
-/// The queue of an architecture has each of its records that wait for a builder, and no other, and they
-/// ascend strictly, so that each stands once.
+/// The queue of an architecture has each of its records that wait for a builder, and no other, and
+/// they ascend strictly, so that each stands once.
 pub fn queue_has_each_waiting_record_once()
     ensures members { (machine : Machine) (arch : List ℕ) (entry : Entry)
         → IsIn entry (queue_of machine arch) ↔ IsWaitingAt machine arch entry }
@@ -42,8 +42,8 @@ pub fn queue_has_each_waiting_record_once()
         → IsStrictlySortedBy entry_cmp (queue_of machine arch) }
 {}
 
-/// The head of a queue is a record that waits for a builder, and no other that waits on the architecture is
-/// to be built before it; if there is no head, none waits.
+/// The head of a queue is a record that waits for a builder, and no other that waits on the
+/// architecture is to be built before it; if there is no head, none waits.
 pub fn the_head_is_built_first()
     ensures waits { (machine : Machine) (arch : List ℕ) (entry : Entry)
         → head_of machine arch ≡ Some entry → IsWaitingAt machine arch entry }
@@ -54,16 +54,17 @@ pub fn the_head_is_built_first()
         → head_of machine arch ≡ None → ¬ (IsWaitingAt machine arch entry) }
 {}
 
-/// The order of places is total, and two source packages of one architecture never have equal places.
+/// The order of places is total, and two source packages of one architecture never have equal
+/// places.
 pub fn places_differ()
     ensures total { IsTotalOrder place_cmp }
     ensures names { (one other : Record) (name another : List ℕ)
         → place_cmp (place_of one name) (place_of other another) ≡ Equal → name ≡ another }
 {}
 
-/// The order of the queue is the order of ranks and, among equal ranks, that of the bytes of the names, so that
-/// a table ordered by both gives the queue; a record in its form has a rank of at most 696347 (this project's
-/// own).
+/// The order of the queue is the order of ranks and, among equal ranks, that of the bytes of the
+/// names, so that a table ordered by both gives the queue; a record in its form has a rank of at
+/// most 696347 (this project's own).
 pub fn ranks_order_the_queue()
     ensures order { (one other : Record) (name another : List ℕ) → IsWellFormed one → IsWellFormed other
         → place_cmp (place_of one name) (place_of other another)
@@ -71,19 +72,19 @@ pub fn ranks_order_the_queue()
     ensures limit { (one : Record) → IsWellFormed one → rank_of one ≤ 696347 }
 {}
 
-/// What a record of a consistent office waits for can be read again: as relations that are reduced for its
-/// architecture already, and that print as they are kept. So no record waits for a text that nobody can read.
-/// Source: this project's own.
+/// What a record of a consistent office waits for can be read again: as relations that are reduced
+/// for its architecture already, and that print as they are kept. So no record waits for a text
+/// that nobody can read. Source: this project's own.
 pub fn kept_waits_are_read()
     ensures { (machine : Machine) (arch source : List ℕ) (current : Record)
         → IsConsistent machine → map.get machine.records (arch, source) ≡ Some current
         → AreRelations (arch_words machine arch) current.waits }
 {}
 
-/// A move that is not refused goes from a state that its row of the table names, and makes of a record
-/// whose fields have their forms what the row says; all that the row does not name stays as it was. If
-/// what the move brings has its form, the fields keep theirs (this project's own, in wanna-build's
-/// terms).
+/// A move that is not refused goes from a state that its row of the table names, and makes of a
+/// record whose fields have their forms what the row says; all that the row does not name stays as
+/// it was. If what the move brings has its form, the fields keep theirs (this project's own, in
+/// wanna-build's terms).
 pub fn moves_follow_the_table()
     ensures from { (move : Move) (old new : Record)
         → move_outcome move old ≡ Ok new → IsTrue (may_go move old.state) }
@@ -93,8 +94,8 @@ pub fn moves_follow_the_table()
         → move_outcome move old ≡ Ok new → IsWellFormed new }
 {}
 
-/// A take number finds the record that is held under it: if no take number is held twice, that record
-/// and no other; if it finds none, there is none.
+/// A take number finds the record that is held under it: if no take number is held twice, that
+/// record and no other; if it finds none, there is none.
 pub fn a_take_number_finds_its_record()
     ensures found { (machine : Machine) (take_number : ℕ) (entry : Entry) → HasDistinctTakes machine
         → (taken_as machine take_number ≡ Some entry)
@@ -104,9 +105,10 @@ pub fn a_take_number_finds_its_record()
         → entry.1.take ≢ Some take_number }
 {}
 
-/// What a builder holds are the records that name it, and in a consistent office they ascend strictly by
-/// take number, so that each stands once. What is reported to it again is the one with the least later
-/// take number among those that it builds on the architecture, or nothing if there is none.
+/// What a builder holds are the records that name it, and in a consistent office they ascend
+/// strictly by take number, so that each stands once. What is reported to it again is the one with
+/// the least later take number among those that it builds on the architecture, or nothing if there
+/// is none.
 pub fn holds_are_by_take_number()
     ensures members { (machine : Machine) (builder : List ℕ) (entry : Entry)
         → IsIn entry (held_of machine builder)
@@ -124,9 +126,9 @@ pub fn holds_are_by_take_number()
         → ¬ (IsBuildingAfter machine arch builder after entry) }
 {}
 
-/// The states share out the records of an architecture: the records in a state are those of the architecture that
-/// are in it; listed state by state, they are all of its records, each once; and so the numbers of records in the
-/// states add up to the number of its records.
+/// The states share out the records of an architecture: the records in a state are those of the
+/// architecture that are in it; listed state by state, they are all of its records, each once; and
+/// so the numbers of records in the states add up to the number of its records.
 pub fn states_share_out_the_records()
     ensures members { (machine : Machine) (arch : List ℕ) (state : State) (entry : Entry)
         → IsIn entry (rows_in machine arch state)
@@ -143,8 +145,8 @@ pub fn the_queue_is_what_needs_a_build()
         → IsPermutation (rows_in machine arch NeedsBuild) (queue_of machine arch) }
 {}
 
-/// The builders share out the held records of a consistent office: what all builders hold, listed builder by
-/// builder, are the records that are held, each once.
+/// The builders share out the held records of a consistent office: what all builders hold, listed
+/// builder by builder, are the records that are held, each once.
 pub fn builders_share_out_the_held_records()
     ensures { (machine : Machine) (builders : List (List ℕ)) → IsConsistent machine
         → IsDistinct bytes_eq builders
@@ -154,9 +156,9 @@ pub fn builders_share_out_the_held_records()
         (flat_map (held_of machine) builders) }
 {}
 
-/// What a query for a record shows is what lists show of it: a record that it shows is listed among those in its
-/// state, and among those of its holder if it has one; and each record that a list of a consistent office has is
-/// what the query for it shows.
+/// What a query for a record shows is what lists show of it: a record that it shows is listed among
+/// those in its state, and among those of its holder if it has one; and each record that a list of
+/// a consistent office has is what the query for it shows.
 pub fn lists_show_what_items_show()
     ensures by_state { (machine : Machine) (arch source : List ℕ) (row : KeyedRecord)
         → answer_of machine (asked.Item arch source) ≡ Ok (Item row)
@@ -189,10 +191,10 @@ pub fn codes_differ()
         ↔ (name_of_refusal one ≡ name_of_refusal other) }
 {}
 
-/// Examples of ranks, and of which of two waiting source packages is built first: by build priority, then what was
-/// built earlier, then by priority, by section, and by name; an archive area does not count, and a section that is not
-/// among the known ones comes last.
-/// Source: this project's own.
+/// Examples of ranks, and of which of two waiting source packages is built first: by build
+/// priority, then what was built earlier, then by priority, by section, and by name; an archive
+/// area does not count, and a section that is not among the known ones comes last. Source: this
+/// project's own.
 pub fn examples_of_the_queue()
     ensures ranks { (one : Record)
         → (rank_of (with_place one (pos 1000) true (codes "required") (codes "libs")) ≡ 0)

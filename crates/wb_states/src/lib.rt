@@ -1,5 +1,5 @@
-//! The states of source packages, the records that the office keeps of them, the commands that move them, the order in
-//! which they are built, and what the office is asked.
+//! The states of source packages, the records that the office keeps of them, the commands that move
+//! them, the order in which they are built, and what the office is asked.
 #![tactic(auto)]
 
 mod arch;

@@ -51,8 +51,8 @@ pub enum Move {
     NotForUs {
         note: Text,
     },
-    /// It is built once more, as the binary-only rebuild of this number, from 1 to 999, for the reason that
-    /// the message gives, of at most 1000 bytes.
+    /// It is built once more, as the binary-only rebuild of this number, from 1 to 999, for the
+    /// reason that the message gives, of at most 1000 bytes.
     Rebuild {
         number: u16,
         message: Text,
@@ -216,12 +216,12 @@ impl Record {
     }
 }
 
-/// The record after the move. The move is refused with `WrongState` if the record is in a state from
-/// which it does not go; then with `BadRelations` if nothing is left of its relations for the
-/// architecture, or more than 65536 bytes, and with `BadNumber` if its number is not above the record's;
-/// and with `Memory`, which comes only after `WrongState` and `BadNumber`, since neither takes memory.
-/// The forms of notes and numbers are not looked at. The table of moves is this project's own, in
-/// wanna-build's terms.
+/// The record after the move. The move is refused with `WrongState` if the record is in a state
+/// from which it does not go; then with `BadRelations` if nothing is left of its relations for the
+/// architecture, or more than 65536 bytes, and with `BadNumber` if its number is not above the
+/// record's; and with `Memory`, which comes only after `WrongState` and `BadNumber`, since neither
+/// takes memory. The forms of notes and numbers are not looked at. The table of moves is this
+/// project's own, in wanna-build's terms.
 #[tactic(auto, unfolding(crate::specs::Moves::move_refusal, crate::specs::Moves::move_outcome))]
 pub fn move_record(alloc: Global, current: &Record, change: &Move) -> Result<Record, Refusal>
     ensures value { IfOk result (λ record_after_move. move_outcome change.now current.now ≡ Ok record_after_move) }
@@ -252,9 +252,9 @@ fn moved_record(alloc: Global, current: &Record, change: &Move) -> Result<Record
     Ok(after)
 }
 
-/// The version of the binaries that are built from the record's source: its version, followed by `+bN`
-/// if the number N of the binary-only rebuild is above 0 (Debian Policy 5.6.12.2). The only error is
-/// that there is no memory for it.
+/// The version of the binaries that are built from the record's source: its version, followed by
+/// `+bN` if the number N of the binary-only rebuild is above 0 (Debian Policy 5.6.12.2). The only
+/// error is that there is no memory for it.
 pub fn build_text(alloc: Global, current: &Record) -> Result<Text, AllocError>
     ensures { IfOk result (λ text. text ≡ build_text_of current.now) }
 {

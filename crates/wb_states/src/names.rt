@@ -8,18 +8,18 @@ ghost use Rattle.wb_states.specs.Names.{is_arch_name, is_os_cpu_word, is_builder
 
 use deb_relations::{is_arch_word, is_package_name};
 
-/// Whether `text` is the name of a source package: 2 to 200 bytes, lower-case letters, digits, `+`, `-`
-/// and `.`, of which the first is a letter or a digit (Debian Policy 5.6.1; the upper limit is this
-/// project's own). Takes no memory.
+/// Whether `text` is the name of a source package: 2 to 200 bytes, lower-case letters, digits, `+`,
+/// `-` and `.`, of which the first is a letter or a digit (Debian Policy 5.6.1; the upper limit is
+/// this project's own). Takes no memory.
 pub fn is_source(text: &str) -> bool
     ensures value { result ≡ is_package_name text.now }
 {
     is_package_name(text)
 }
 
-/// Whether `text` is the name of an architecture: 1 to 40 bytes, lower-case letters, digits and `-`, of
-/// which the first is a letter or a digit, and not `all`, `any` or `source` (this project's own). Takes
-/// no memory.
+/// Whether `text` is the name of an architecture: 1 to 40 bytes, lower-case letters, digits and
+/// `-`, of which the first is a letter or a digit, and not `all`, `any` or `source` (this project's
+/// own). Takes no memory.
 #[tactic(auto, unfolding(crate::specs::Names::is_arch_name))]
 pub fn is_arch(text: &str) -> bool
     ensures value { result ≡ is_arch_name text.now }
@@ -38,8 +38,8 @@ pub fn is_os_cpu(text: &str) -> bool
     is_long_between(text, 1, 20) && is_all_lower_or_digit(text) && !(text == "any")
 }
 
-/// Whether `text` is the name of a builder: 1 to 64 bytes, letters, digits, `.`, `_` and `-`, of which
-/// the first is a letter or a digit (this project's own). Takes no memory.
+/// Whether `text` is the name of a builder: 1 to 64 bytes, letters, digits, `.`, `_` and `-`, of
+/// which the first is a letter or a digit (this project's own). Takes no memory.
 #[tactic(auto, unfolding(crate::specs::Names::is_builder_name))]
 pub fn is_builder(text: &str) -> bool
     ensures value { result ≡ is_builder_name text.now }
@@ -47,8 +47,8 @@ pub fn is_builder(text: &str) -> bool
     is_long_between(text, 1, 64) && begins_with_letter_or_digit(text) && is_all_builder(text)
 }
 
-/// Whether `text` is a priority or a section: 1 to 64 bytes from `!` to `~` (Debian Policy 2.5 and 2.4;
-/// the form is this project's own). Takes no memory.
+/// Whether `text` is a priority or a section: 1 to 64 bytes from `!` to `~` (Debian Policy 2.5 and
+/// 2.4; the form is this project's own). Takes no memory.
 #[tactic(auto, unfolding(crate::specs::Names::is_label_text))]
 pub fn is_label(text: &str) -> bool
     ensures value { result ≡ is_label_text text.now }

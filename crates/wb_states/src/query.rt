@@ -9,8 +9,8 @@ use deb_text::{Items, Text};
 // A query is a value, as a command is: what is answered is a definition over the state
 // (`answer_of`), and an office has one call for all queries. So a new query is an arm in a few
 // tables, and no method of the office with clauses of its own.
-/// What is asked of the office and changes nothing. Its texts are taken as they came: the office tests their forms (this
-/// project's own).
+/// What is asked of the office and changes nothing. Its texts are taken as they came: the office
+/// tests their forms (this project's own).
 #[derive(Debug, Drop)]
 pub enum Query {
     /// The queue of an architecture.
@@ -58,8 +58,8 @@ pub enum Query {
 }
 
 impl Query {
-    /// Whether a name in it is malformed, for which it is refused as `BadName`; so is a state's name that no state has.
-    /// Takes no memory (this project's own).
+    /// Whether a name in it is malformed, for which it is refused as `BadName`; so is a state's
+    /// name that no state has. Takes no memory (this project's own).
     pub fn has_malformed_name(&self) -> bool
         ensures value { result ≡ has_malformed_name self.now }
     {

@@ -11,10 +11,10 @@ use crate::{BUILD_PRIORITY_LIMIT, Record};
 use std::cmp::Ordering;
 use std::marker::Model;
 
-/// Where a source package stands in the queue of its architecture: by build priority, the greatest first, what
-/// was built earlier before what is new, then by priority, by section without its archive area, and by the bytes
-/// of the name (wanna-build's states page; build priorities and the order of sections are this project's own).
-/// The least is built first.
+/// Where a source package stands in the queue of its architecture: by build priority, the greatest
+/// first, what was built earlier before what is new, then by priority, by section without its
+/// archive area, and by the bytes of the name (wanna-build's states page; build priorities and the
+/// order of sections are this project's own). The least is built first.
 #[derive(Debug, Drop)]
 pub struct QueueKey<'a> {
     build_priority: i16,
@@ -102,9 +102,9 @@ impl<'a> PartialOrd for QueueKey<'a> {
 // of the ranks and then of the names. So the index `record_order` of the tables has the queue, if
 // each row has the rank of its record. It stands here, since the proofs of the tables would else
 // have to speak of SQL and of the queue's order at once.
-/// The number by which a table orders the records that wait on an architecture, those of one number by the
-/// bytes of their names, which is the order of [`QueueKey`]: the least is built first. For a record in its
-/// form it lies between 0 and 696347. Takes no memory (this project's own).
+/// The number by which a table orders the records that wait on an architecture, those of one number
+/// by the bytes of their names, which is the order of [`QueueKey`]: the least is built first. For a
+/// record in its form it lies between 0 and 696347. Takes no memory (this project's own).
 pub fn rank(current: &Record) -> u32
     ensures value { result ≡ rank_of current.now }
 {

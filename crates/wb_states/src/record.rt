@@ -7,15 +7,16 @@ use deb_version::Version;
 
 /// The record of a source package on an architecture (this project's own).
 ///
-/// Exactly the states Building, Built and Uploaded have a holder and a take number, and exactly Dep-Wait
-/// has waits.
+/// Exactly the states Building, Built and Uploaded have a holder and a take number, and exactly
+/// Dep-Wait has waits.
 #[derive(Clone, Debug, Drop)]
 pub struct Record {
     /// Where the package stands.
     pub state: State,
     /// The source version that is to be built, or was.
     pub version: Version,
-    /// The priority (Debian Policy 2.5): 1 to 64 bytes from `!` to `~`, or empty if a list gave none.
+    /// The priority (Debian Policy 2.5): 1 to 64 bytes from `!` to `~`, or empty if a list gave
+    /// none.
     pub priority: Text,
     /// The section (Debian Policy 2.4), in the form of the priority.
     pub section: Text,
@@ -37,7 +38,7 @@ pub struct Record {
     pub note: Text,
     /// Why it is rebuilt, at most 1000 bytes.
     pub message: Text,
-    /// The build priority that an operator gave it, from -1000 to 1000 and 0 at first: of two waiting packages,
-    /// the one with the greater is built first.
+    /// The build priority that an operator gave it, from -1000 to 1000 and 0 at first: of two
+    /// waiting packages, the one with the greater is built first.
     pub build_priority: i16,
 }

@@ -78,7 +78,8 @@ pub enum ListingFault {
 }
 
 impl ListingFault {
-    /// The fault's name: that of the control data's fault, `Missing` or `BadValue`. Takes no memory.
+    /// The fault's name: that of the control data's fault, `Missing` or `BadValue`. Takes no
+    /// memory.
     pub fn name(self) -> &'static str
         ensures value { result.now ≡ name_of_listing_fault self }
     {
@@ -92,14 +93,14 @@ impl ListingFault {
 
 /// Why a command was refused. After a refusal the office is as it was.
 ///
-/// If several apply to a command, the first is answered, in this order. `Closed`. The forms of its texts:
-/// `BadName`, `BadVersion`, `BadRelations` for relations that cannot be read, `BadNumber` for a number
-/// that no rebuild and no build priority has, `TextTooLong`, `BadReport`, `RepeatedArch`. Then what the office has: `UnknownArch`,
-/// `BadListing`, `UnknownBuilder`, `WrongArch`, `AfterAhead`, `NotHeld`, `UnknownSource`,
-/// `OtherVersion`, `WrongState`, `QueueEmpty`, `AlreadyThere`, `BadRelations` for waits that reduce to
-/// nothing or to too much, `BadNumber` for a number that is not above the record's, `Spent`. `Memory` and,
-/// after the texts, `Store` may come at any point. The order, the numbers and the names are this project's
-/// own.
+/// If several apply to a command, the first is answered, in this order. `Closed`. The forms of its
+/// texts: `BadName`, `BadVersion`, `BadRelations` for relations that cannot be read, `BadNumber`
+/// for a number that no rebuild and no build priority has, `TextTooLong`, `BadReport`,
+/// `RepeatedArch`. Then what the office has: `UnknownArch`, `BadListing`, `UnknownBuilder`,
+/// `WrongArch`, `AfterAhead`, `NotHeld`, `UnknownSource`, `OtherVersion`, `WrongState`,
+/// `QueueEmpty`, `AlreadyThere`, `BadRelations` for waits that reduce to nothing or to too much,
+/// `BadNumber` for a number that is not above the record's, `Spent`. `Memory` and, after the texts,
+/// `Store` may come at any point. The order, the numbers and the names are this project's own.
 #[derive(Debug, Drop, Error)]
 pub enum Refusal {
     /// The architecture was never added, or a merge has no part.
@@ -146,13 +147,14 @@ pub enum Refusal {
     BadVersion {
         fault: VersionFault,
     },
-    /// The relations have this fault, or, if there is none, nothing of them is left for the architecture.
+    /// The relations have this fault, or, if there is none, nothing of them is left for the
+    /// architecture.
     #[error(fmt = print_refused_relations)]
     BadRelations {
         fault: Option<RelationFault>,
     },
-    /// The number of the rebuild is 0, above 999, or not above the record's; or the build priority is out of
-    /// its range.
+    /// The number of the rebuild is 0, above 999, or not above the record's; or the build priority
+    /// is out of its range.
     #[error("the number is out of range, or the rebuild number is not above the current one")]
     BadNumber,
     /// A list has this fault in the paragraph of this number, counted from 1.
@@ -162,7 +164,8 @@ pub enum Refusal {
         paragraph: u64,
         fault: ListingFault,
     },
-    /// The line of this number, counted from 1, of a report is malformed, or it names a source package again.
+    /// The line of this number, counted from 1, of a report is malformed, or it names a source
+    /// package again.
     #[error("line {line} is malformed, or names a source package again")]
     BadReport {
         line: u64,
@@ -201,8 +204,8 @@ fn print_refused_relations<W: fmt::Write>(
 }
 
 impl Refusal {
-    /// Whether the office is closed after it: its store failed, or it was closed before. Takes no memory (this project's
-    /// own).
+    /// Whether the office is closed after it: its store failed, or it was closed before. Takes no
+    /// memory (this project's own).
     pub fn is_of_store(&self) -> bool
         ensures value { result ≡ is_of_store self.now }
     {

@@ -5,7 +5,8 @@ use deb_text::{Items, Text};
 // An accepted `next` or `take` is a hand-out, and what the builder gets by it is an assignment,
 // which other commands can answer too. A retry repeats the assignment, and is no hand-out. `Job` is
 // the name of the reply's variant alone.
-/// What a builder is handed: one source package on one architecture, which it holds until the hold ends.
+/// What a builder is handed: one source package on one architecture, which it holds until the hold
+/// ends.
 #[derive(Debug, Drop)]
 pub struct Assignment {
     /// The architecture to build for.
@@ -14,7 +15,8 @@ pub struct Assignment {
     pub source: Text,
     /// The source version.
     pub version: Text,
-    /// The version of the binaries: the source version, followed by `+bN` for a binary-only rebuild N.
+    /// The version of the binaries: the source version, followed by `+bN` for a binary-only rebuild
+    /// N.
     pub build: Text,
     /// The number of the binary-only rebuild, 0 for none.
     pub number: u16,
@@ -73,7 +75,8 @@ pub enum Reply {
         accepted: u64,
         assignment: Assignment,
     },
-    /// The records are as the report says; `changed` of them differ in some field from what they were.
+    /// The records are as the report says; `changed` of them differ in some field from what they
+    /// were.
     Reported {
         accepted: u64,
         changed: u64,

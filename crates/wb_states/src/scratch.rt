@@ -3,8 +3,8 @@
 use deb_text::Text;
 use deb_version::Version;
 
-/// What a merge keeps of a paragraph of a Sources list (Debian Policy 5.4; that these fields are kept is this project's
-/// own).
+/// What a merge keeps of a paragraph of a Sources list (Debian Policy 5.4; that these fields are
+/// kept is this project's own).
 #[derive(Debug, Drop)]
 pub struct SourceRow {
     /// The number of the paragraph, counted from 1.
@@ -27,8 +27,8 @@ pub struct SourceRow {
     pub depends_arch: Text,
 }
 
-/// What a merge keeps of a paragraph of a Packages list that can be installed on the architecture whose part is merged
-/// (Debian Policy 5.3; that these fields are kept is this project's own).
+/// What a merge keeps of a paragraph of a Packages list that can be installed on the architecture
+/// whose part is merged (Debian Policy 5.3; that these fields are kept is this project's own).
 #[derive(Debug, Drop)]
 pub struct BinaryRow {
     /// The number of the paragraph, counted from 1.

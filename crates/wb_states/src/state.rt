@@ -2,8 +2,8 @@
 ghost use Rattle.std.specs.Prelude.{◌≡◌, ◌≢◌, ◌<◌, IfSome, IfNone};
 ghost use Rattle.wb_states.specs.State.{code_of, name_of, state_named};
 
-/// Where a source package stands on an architecture. The names are wanna-build's, the codes are this
-/// project's own and never change.
+/// Where a source package stands on an architecture. The names are wanna-build's, the codes are
+/// this project's own and never change.
 #[derive(Clone, Copy, Debug, PartialEq, Eq)]
 pub enum State {
     /// It waits in the queue for a builder.

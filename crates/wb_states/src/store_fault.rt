@@ -41,8 +41,8 @@ impl Table {
     }
 }
 
-/// Why the store of the office cannot be opened, read or written. The numbers and the names are this
-/// project's own.
+/// Why the store of the office cannot be opened, read or written. The numbers and the names are
+/// this project's own.
 #[derive(Clone, Copy, Debug, PartialEq, Eq, Error)]
 pub enum StoreFault {
     /// It is no database, or not that of an office.
@@ -51,8 +51,8 @@ pub enum StoreFault {
     /// It was written in a format that is newer than this program.
     #[error("its format is newer than this program")]
     NewerSchema,
-    /// A row of a table is not what an office keeps: its number, counted from 1 in the order of keys, or 0
-    /// if the database itself refused a statement on the table.
+    /// A row of a table is not what an office keeps: its number, counted from 1 in the order of
+    /// keys, or 0 if the database itself refused a statement on the table.
     #[error("{} is damaged in row {row}", .table.name())]
     Damaged { table: Table, row: u64 },
     /// It is out of memory now.

@@ -8,7 +8,8 @@ use deb_text::Text;
 /// The records that a command names: what has to be looked up before it can be carried out.
 #[derive(Debug, Drop)]
 pub enum Subject<'a> {
-    /// None by itself: the command adds an architecture or a builder, or its lists or its report name them.
+    /// None by itself: the command adds an architecture or a builder, or its lists or its report
+    /// name them.
     Nothing,
     /// That of a source package: the architecture and the source package.
     Source(&'a Text, &'a Text),
