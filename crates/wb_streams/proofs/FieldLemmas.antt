@@ -1,15 +1,16 @@
 -- Lemmas on the fields of a name and their values.
-use Rattle.std.proofs.Common.{◌<◌, ◌≤◌, arith, nat_lt, length, subst, if◌then◌else◌, ◌==◌, None, Some, Ok, Err, ◌≡◌, ◌∙◌, inl, inr, refl, ap, sym, ℕ, Bool, true, false, not, ◌||◌, ◌&&◌, List, [], ◌∷◌, map, option_map}
+use Rattle.std.proofs.Common.{◌<◌, ◌≤◌, ◌-◌, arith, get_or, nat_lt, length, take, drop, subst, if◌then◌else◌, ◌==◌, None, Some, Ok, Err, ◌≡◌, ◌∙◌, inl, inr, refl, ap, sym, ℕ, Bool, true, false, not, ◌||◌, ◌&&◌, List, [], ◌∷◌, map, option_map}
 use Rattle.std.specs.List.{find, list_all, list_any}
 use Rattle.std.proofs.lemmas.Bool.{and_parts, cases_Bool}
 use Rattle.std.proofs.lemmas.Bool.Decides.{nat_tests}
+use Rattle.std.proofs.lemmas.List.{take_all}
 use Rattle.std.specs.Char.{is_ascii_digit}
 use Rattle.std.specs.Str.Parse.{digits_value}
 use Rattle.httparse.specs.declared.borrowed.Header.{Header}
 use Rattle.httparse.specs.Borrowed.{header_parts}
 use Rattle.deb_text.specs.Lists.{first_of}
 use Rattle.wb_streams.specs.declared.fault.Fault.TheVariants.{NoLength, BadLength, BodyTooLarge}
-use Rattle.wb_streams.specs.Fields.{body_limit, is_named, is_number, is_same_number, length_stated, limited, values_of}
+use Rattle.wb_streams.specs.Fields.{NameAndValue, body_limit, has_field, is_named, is_number, is_same_number, length_stated, limited, only_of, values_of}
 
 pub list_any-map : {X Y : Type 0} (test : X → Bool) (f : Y → X) (ys : List Y) → list_any test (map f ys) ≡ list_any (λ y. test (f y)) ys
 list_any-map test f [] = refl
@@ -32,6 +33,50 @@ list_all-values_of test name (x ∷ xs) = elim (cases_Bool (is_named name (heade
   | inl t ↦ rw t (ap (λ b. test x.value.now && b) (list_all-values_of test name xs))
   | inr f ↦ rw f (list_all-values_of test name xs)
 ]
+
+-- ---- the only value of a name
+
+-- a field of a name, and no other behind it
+pub only_of-one : (name value : List ℕ) (fields : List NameAndValue) → has_field name fields ≡ false
+    → Some value ≡ only_of (value ∷ values_of name fields)
+only_of-one name value [] none = refl
+only_of-one name value (x ∷ xs) none = elim (cases_Bool (is_named name x)) [
+  | inl t ↦ absurd (cc)
+  | inr f ↦ rw f (only_of-one name value xs (sym (ap (λ b. b || has_field name xs) f) ∙ none))
+]
+
+-- a field of a name, and another behind it
+pub only_of-more : (name value : List ℕ) (fields : List NameAndValue) → has_field name fields ≡ true
+    → None ≡ only_of (value ∷ values_of name fields)
+only_of-more name value [] some = absurd (cc)
+only_of-more name value (x ∷ xs) some = elim (cases_Bool (is_named name x)) [
+  | inl t ↦ rw t refl
+  | inr f ↦ rw f (only_of-more name value xs (sym (ap (λ b. b || has_field name xs) f) ∙ some))
+]
+
+-- a list that is not empty is its first field and the others
+abbrev Others : List Header → List Header
+Others fields = take (length fields - 1) (drop 1 fields)
+
+pub only_of-first : (name : List ℕ) (d : Header) (fields : List Header) → 1 ≤ length fields
+    → true ≡ is_named name (header_parts (get_or fields 0 d))
+    → false ≡ has_field name (map header_parts (Others fields))
+    → Some (get_or fields 0 d).value.now ≡ only_of (values_of name (map header_parts fields))
+only_of-first name d [] some named none = absurd (omega arith)
+only_of-first name d (x ∷ xs) some named none =
+    let rest : Others (x ∷ xs) ≡ xs = take_all (length (x ∷ xs) - 1) xs (omega arith) in
+    rw (sym named) (only_of-one name x.value.now (map header_parts xs)
+    (sym (none ∙ ap (λ fields. has_field name (map header_parts fields)) rest)))
+
+pub only_of-second : (name : List ℕ) (d : Header) (fields : List Header) → 1 ≤ length fields
+    → true ≡ is_named name (header_parts (get_or fields 0 d))
+    → true ≡ has_field name (map header_parts (Others fields))
+    → None ≡ only_of (values_of name (map header_parts fields))
+only_of-second name d [] some named more = absurd (omega arith)
+only_of-second name d (x ∷ xs) some named more =
+    let rest : Others (x ∷ xs) ≡ xs = take_all (length (x ∷ xs) - 1) xs (omega arith) in
+    rw (sym named) (only_of-more name x.value.now (map header_parts xs)
+    (sym (more ∙ ap (λ fields. has_field name (map header_parts fields)) rest)))
 
 -- ---- the length that values state
 

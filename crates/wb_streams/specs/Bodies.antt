@@ -14,13 +14,15 @@ TookLess already count old new = (taken : List ℕ) × Consumes old new taken ×
 abbrev pub TookNoMore : List ℕ → ℕ → Option (List ℕ) → Option (List ℕ) → Type 0
 TookNoMore already count old new = (taken : List ℕ) × Consumes old new taken × (length taken ≤ count - length already)
 
--- what a read took into the rest of a room whose front was filled before: all of it, or the input ended or the reader failed before
+-- what a read took into the rest of a room whose front was filled before: all of it, or the input ended or the reader
+-- failed before
 abbrev pub TookRest : List ℕ → List ℕ → Option (List ℕ) → Option (List ℕ) → Filling → Type 0
 TookRest front room old new filling.Full = (taken : List ℕ) × Consumes old new taken × (room ≡ front ++ taken)
 TookRest front room old new filling.Ended = (taken : List ℕ) × Consumes old new taken × IsAtEnd new × (length (front ++ taken) < length room)
 TookRest front room old new filling.Failed = TookLess front (length room) old new
 
--- what a read took into a room, for which some bytes came already: all of it, or the input ended or the reader failed before
+-- what a read took into a room, for which some bytes came already: all of it, or the input ended or the reader failed
+-- before
 abbrev pub TookRoom : List ℕ → List ℕ → Option (List ℕ) → Option (List ℕ) → Filling → Type 0
 TookRoom already room old new filling.Full = (taken : List ℕ) × Consumes old new taken
     × (length room ≤ length (already ++ taken)) × (room ≡ take (length room) (already ++ taken))
@@ -34,7 +36,8 @@ is_failed_fill filling.Full = false
 is_failed_fill filling.Ended = false
 is_failed_fill filling.Failed = true
 
--- what a read of a body of so many bytes took, of which some came already: the whole body, or the input ended or the reader failed before; nothing if memory ran out
+-- what a read of a body of so many bytes took, of which some came already: the whole body, or the input ended or the
+-- reader failed before; nothing if memory ran out
 abbrev pub TookBody : List ℕ → ℕ → Option (List ℕ) → Option (List ℕ) → BodyRead → Type 0
 TookBody already count old new (came.Whole body) = (taken : List ℕ) × Consumes old new taken
     × (count ≤ length (already ++ taken)) × (body.items ≡ take count (already ++ taken))

@@ -43,7 +43,8 @@ bytes_of (byte.Byte c) = c ∷ []
 bytes_of byte.End = []
 bytes_of byte.Failed = []
 
--- what a read took from the reader: a line and its line feed, the last line, more than a line may have, or what came before a read that failed
+-- what a read took from the reader: a line and its line feed, the last line, more than a line may have, or what came
+-- before a read that failed
 abbrev pub TookLine : List ℕ → Option (List ℕ) → Option (List ℕ) → LineRead → Type 0
 TookLine room old new (Ended len) = (len ≤ line_limit) × IsOneLine (take len room) × Consumes old new (with_line_feed (take len room))
 TookLine room old new (Last len) = (len ≤ line_limit) × IsOneLine (take len room) × Consumes old new (take len room) × IsAtEnd new

@@ -2,7 +2,8 @@
 use Rattle.std.specs.Prelude.{◌≡◌, ℕ, ◌<◌, Bool, true, false, List, length, take, Option}
 use Rattle.std.specs.Io.KnownBytes.{Appends}
 
--- what a clause sees of a reader or a writer: the bytes that it has left or holds, if these are known, and whether a call of it failed
+-- what a clause sees of a reader or a writer: the bytes that it has left or holds, if these are known, and whether a
+-- call of it failed
 pub record Stream : Type 0 where
   pub bytes : Option (List ℕ)
   pub failed : Bool

@@ -71,8 +71,8 @@ fn fill_after<R: Read + Drop>(
     fill(reader, room, ready)
 }
 
-/// Reads a body of `count` bytes, of which `already` came with the head, and maybe bytes after the body.
-/// The memory for all of it is taken before the first read.
+/// Reads a body of `count` bytes, of which `already` came with the head, and maybe bytes after the
+/// body. The memory for all of it is taken before the first read.
 pub fn read_body<R: Read + Drop>(
     alloc: Global,
     reader: &mut WatchedReader<R>,

@@ -5,8 +5,8 @@ ghost use Rattle.wb_streams.specs.Answers.{fault_text, name_of_fault, status_of_
 use http::StatusCode;
 use thiserror::Error;
 
-/// Why a request is not carried out. They are tested in this order.
-/// Source: this project's own.
+/// Why a request is not carried out. They are tested in this order, and `NotAllowed` once more
+/// after `BadBody`, by what the body says. Source: this project's own.
 #[derive(Clone, Copy, Debug, PartialEq, Eq, Error)]
 pub enum Fault {
     /// The head is longer, or has more fields, than a head may have.
@@ -18,12 +18,18 @@ pub enum Fault {
     /// A web page had its browser send the request.
     #[error("a web page had its browser send the request")]
     FromBrowser,
+    /// It shows no key, or none that the office knows.
+    #[error("the request shows no key, or none that the office knows")]
+    NoKey,
     /// The target is none that this project has.
     #[error("the target is none that is served")]
     NoRoute,
     /// The target has another method.
     #[error("the target has another method")]
     WrongMethod,
+    /// The line of its key has no right for it.
+    #[error("the line of the key has no right for the request")]
+    NotAllowed,
     /// A part of the path is not UTF-8 once it is decoded.
     #[error("a part of the path is not UTF-8 once it is decoded")]
     BadPath,
@@ -60,8 +66,10 @@ impl Fault {
             Fault::HeadTooLarge => "HeadTooLarge",
             Fault::BadHead => "BadHead",
             Fault::FromBrowser => "FromBrowser",
+            Fault::NoKey => "NoKey",
             Fault::NoRoute => "NoRoute",
             Fault::WrongMethod => "WrongMethod",
+            Fault::NotAllowed => "NotAllowed",
             Fault::BadPath => "BadPath",
             Fault::NotSupported => "NotSupported",
             Fault::NoLength => "NoLength",
@@ -82,8 +90,10 @@ impl Fault {
             Fault::HeadTooLarge => StatusCode::REQUEST_HEADER_FIELDS_TOO_LARGE,
             Fault::BadHead => StatusCode::BAD_REQUEST,
             Fault::FromBrowser => StatusCode::FORBIDDEN,
+            Fault::NoKey => StatusCode::UNAUTHORIZED,
             Fault::NoRoute => StatusCode::NOT_FOUND,
             Fault::WrongMethod => StatusCode::METHOD_NOT_ALLOWED,
+            Fault::NotAllowed => StatusCode::FORBIDDEN,
             Fault::BadPath => StatusCode::BAD_REQUEST,
             Fault::NotSupported => StatusCode::NOT_IMPLEMENTED,
             Fault::NoLength => StatusCode::LENGTH_REQUIRED,
@@ -104,8 +114,10 @@ impl Fault {
             Fault::HeadTooLarge => r#"{"http":"HeadTooLarge"}"#,
             Fault::BadHead => r#"{"http":"BadHead"}"#,
             Fault::FromBrowser => r#"{"http":"FromBrowser"}"#,
+            Fault::NoKey => r#"{"http":"NoKey"}"#,
             Fault::NoRoute => r#"{"http":"NoRoute"}"#,
             Fault::WrongMethod => r#"{"http":"WrongMethod"}"#,
+            Fault::NotAllowed => r#"{"http":"NotAllowed"}"#,
             Fault::BadPath => r#"{"http":"BadPath"}"#,
             Fault::NotSupported => r#"{"http":"NotSupported"}"#,
             Fault::NoLength => r#"{"http":"NoLength"}"#,

@@ -61,8 +61,8 @@ pub fn front_of(bytes: &[u8]) -> Front
     }
 }
 
-/// Whether bytes, fewer than a head may have, are the front of a head of any number of fields, and not all of one.
-/// Source: RFC 9112, sections 2 to 5.
+/// Whether bytes, fewer than a head may have, are the front of a head of any number of fields, and
+/// not all of one. Source: RFC 9112, sections 2 to 5.
 pub fn is_unfinished(bytes: &[u8]) -> bool
     requires { length bytes.now < head_limit }
     ensures value { result ≡ true → IsUnfinished bytes.now }

@@ -1,8 +1,8 @@
 //! A reader and a writer that report whether they failed, as a stream of C can (`ferror`).
 //!
-//! The flags are private to this file, and only its one call of `read` and its one of `write` set them. That
-//! a flag is set if that call failed, and only then, can be read here but is not proved: all else that a
-//! contract says of a failed read or write rests on it.
+//! The flags are private to this file, and only its one call of `read` and its one of `write` set
+//! them. That a flag is set if that call failed, and only then, can be read here but is not proved:
+//! all else that a contract says of a failed read or write rests on it.
 ghost use Rattle.std.specs.Prelude.{◌≡◌, ◌<◌, length, true, false, OnErr, OnOk, IfOk};
 ghost use Rattle.std.specs.Io.{ReadsAtMost, WritesAtMost};
 ghost use Rattle.std.specs.Io.KnownBytes.{ReadConsumes, WriteAppends};
@@ -46,8 +46,8 @@ impl<R: Read + Drop> WatchedReader<R> {
         self.failed
     }
 
-    /// Reads into the room, and gives how many bytes. The error is that of the reader, also if the read
-    /// was interrupted; then nothing was read.
+    /// Reads into the room, and gives how many bytes. The error is that of the reader, also if the
+    /// read was interrupted; then nothing was read.
     pub fn read(&mut self, room: &mut [u8]) -> io::Result<usize>
         ensures bound { ReadsAtMost result room.new }
         ensures bytes { ReadConsumes self.old.bytes self.new.bytes result room.new }
@@ -103,9 +103,9 @@ impl<W: Write + Drop> WatchedWriter<W> {
         self.failed
     }
 
-    /// Writes bytes, of which there is one at least, and gives how many were taken. The error is that of the
-    /// writer, also if the write was interrupted, or `WriteZero` if it took no byte; then nothing was
-    /// written.
+    /// Writes bytes, of which there is one at least, and gives how many were taken. The error is
+    /// that of the writer, also if the write was interrupted, or `WriteZero` if it took no byte;
+    /// then nothing was written.
     pub fn write(&mut self, bytes: &[u8]) -> io::Result<usize>
         requires filled { 0 < length bytes.now }
         ensures some { IfOk result (λ count. 0 < count) }

@@ -13,8 +13,8 @@ use std::io::Write;
 
 // Not `write_all`, which tries an interrupted write again and does not say how much was written. So
 // what was written is always a front of the answers.
-/// Writes the bytes. Says whether all were written: a write that takes no byte or fails ends it, also one
-/// that was interrupted, and then a front of the bytes was written.
+/// Writes the bytes. Says whether all were written: a write that takes no byte or fails ends it,
+/// also one that was interrupted, and then a front of the bytes was written.
 pub(crate) fn write_bytes<W: Write + Drop>(writer: &mut WatchedWriter<W>, bytes: &[u8]) -> bool
     ensures value { result ≡ true → Appends writer.old.bytes writer.new.bytes bytes.now }
     ensures err { result ≡ false → AppendsFront writer.old.bytes writer.new.bytes bytes.now }

@@ -6,4 +6,4 @@ use Rattle.wb_streams.proofs.laws.examples_of_answers.Goals as goal
 
 pub returns : goal.returns
 unfolding answer_bytes parts_bytes phrase_of digits
-returns c = record { phrases = refl; none = refl; answer = refl; without_phrase = refl }
+returns c = record { phrases = refl; none = refl; answer = refl; unauthorized = refl; without_phrase = refl }
