@@ -1,3 +1,4 @@
 pub mod FileLemmas
+pub mod LineLemmas
 pub mod RightLemmas
 pub mod SoundLemmas

@@ -1,7 +1,6 @@
 -- Key files that are read: each name and each hash stands once, each line has a right, and there are not too many.
-use Rattle.std.proofs.Common.{◌≡◌, ℕ, ◌+◌, ◌≤◌, Bool, true, false, cond, ◌⊎◌, inl, inr, List, [], ◌∷◌, ◌++◌, length}
-use Rattle.std.proofs.Common.{Option, Some, None, Result, Ok, Err, is_some, refl, sym, ap, ◌∙◌, ◌||◌, not, subst, arith}
-use Rattle.std.proofs.Common.{rules}
+use Rattle.std.proofs.Common.{◌≡◌, ℕ, ◌+◌, ◌≤◌, Bool, true, false, ◌⊎◌, inl, inr, List, [], ◌∷◌, ◌++◌, length, Option}
+use Rattle.std.proofs.Common.{Some, None, Result, Ok, Err, is_some, refl, sym, ap, ◌∙◌, not, subst, arith, rules}
 use Rattle.std.specs.Prelude.{bytes_eq, codes, find, IfSome, if◌then◌else◌, nat_le}
 use Rattle.std.specs.List.{list_any}
 use Rattle.std.specs.Option.{option_or}
@@ -24,6 +23,7 @@ use Rattle.wb_keys.specs.KeyFile.{all_rights, anyone_line, front_of, go_on, has_
 use Rattle.wb_keys.specs.KeyFile.{key_limit, keyed_line, keys_after, keys_of, last_hash, line_by, line_of}
 use Rattle.wb_keys.specs.KeyFile.{line_of_words, no_keys, right_before, right_of, rights_in, said, with_anyone}
 use Rattle.wb_keys.specs.KeyFile.{with_key, with_line}
+use Rattle.wb_keys.proofs.LineLemmas.{find-none}
 use Rattle.wb_keys.proofs.RightLemmas.{list_any-IsIn}
 
 -- the lines of a key file that is read
@@ -42,15 +42,6 @@ last-or x y [] (inl same) = inr same
 last-or x y [] (inr none) = absurd none
 last-or x y (z ∷ zs) (inl same) = inl (inl same)
 last-or x y (z ∷ zs) (inr later) = elim (last-or x y zs later) [ inl here ↦ inl (inr here) | inr same ↦ inr same ]
-
-find-none : {X : Type 0} (p : X → Bool) (xs : List X) → list_any p xs ≡ false → find p xs ≡ None
-find-none p [] h = refl
-find-none p (x ∷ xs) h = head (p x) x (list_any p xs) (find p xs) h (find-none p xs)
-  where
-    head : {X : Type 0} (b : Bool) (x : X) (later : Bool) (found : Option X) → (b || later) ≡ false
-        → (later ≡ false → found ≡ None) → cond b (Some x) found ≡ None
-    head true x later found h rest = cc
-    head false x later found h rest = rest h
 
 same_bytes : (text : List ℕ) → bytes_eq text text ≡ true
 same_bytes text = (bytes_eq-Decides text text).1 refl

@@ -11,9 +11,9 @@ use Rattle.wb_keys.specs.declared.right.Right.{Right}
 use Rattle.wb_keys.specs.declared.right.Right.TheVariants.{Operate}
 use Rattle.wb_keys.specs.KeyFile.{line_by_hash, rights_by_hash}
 
--- an office without keys: everybody may ask for everything
+-- an office without keys: everybody may ask for everything, whatever a request shows
 abbrev pub everybody : Access
-everybody = Everybody (Operate ∷ [])
+everybody = Everybody
 
 -- the rights of a request by the lines of keys: those of the line `*` if it shows nothing, none if it shows a malformed
 -- key, and those of the line with the hash of the key that it shows
@@ -22,9 +22,9 @@ rights_by_keys keys Nothing = keys.anyone
 rights_by_keys keys Malformed = None
 rights_by_keys keys (Hash hash) = rights_by_hash keys hash
 
--- the rights of a request by what it shows of a key
+-- the rights of a request by what it shows of a key: the right to everything in an office without keys
 abbrev pub rights_of : Access → Shown → Option (List Right)
-rights_of (Everybody rights) shown = Some rights
+rights_of Everybody shown = Some (Operate ∷ [])
 rights_of (ByKeys keys) shown = rights_by_keys keys shown
 
 -- the name on the line of the key that a request shows
@@ -35,5 +35,5 @@ name_by_keys keys (Hash hash) = option_map (λ (line : KeyLine). line.name) (lin
 
 -- the name on the line of a request by what it shows of a key
 abbrev pub name_of : Access → Shown → Option (List ℕ)
-name_of (Everybody rights) shown = None
+name_of Everybody shown = None
 name_of (ByKeys keys) shown = name_by_keys keys shown

@@ -5,10 +5,11 @@ use Rattle.wb_states.specs.declared.command.Command.TheVariants as of
 use Rattle.wb_states.specs.declared.command.Next.{Next}
 use Rattle.wb_states.specs.declared.command.Report.{Report}
 use Rattle.wb_states.specs.declared.command.Take.{Take}
+use Rattle.wb_states.specs.Holds.{holder_of}
 use Rattle.wb_states.specs.Machine.{Machine}
 use Rattle.wb_states.specs.Subject.{subject_of, Source, Taken}
 use Rattle.wb_keys.specs.declared.right.Kind.TheVariants.{Porter}
-use Rattle.wb_keys.specs.Rights.{holder_of, kind_of}
+use Rattle.wb_keys.specs.Rights.{kind_of}
 
 -- the command takes the head of a queue in the name of the builder
 abbrev pub TakesHead : List ℕ → Command → Type 0

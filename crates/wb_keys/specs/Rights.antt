@@ -1,18 +1,27 @@
 -- Who may ask an office for what, by the rights of a line of its key file.
-use Rattle.std.specs.Prelude.{ℕ, Bool, true, false, List, bytes_eq, Option, Some, None}
+use Rattle.std.specs.Prelude.{ℕ, Bool, true, false, not, ◌&&◌, List, [], ◌∷◌, bytes_eq, Option, Some, None}
+use Rattle.std.specs.Prelude.{if◌then◌else◌}
 use Rattle.std.specs.List.{list_any}
 use Rattle.std.specs.Option.{option_and_then}
 use Rattle.deb_text.specs.Lists.{is_nonempty}
 use Rattle.wb_states.specs.declared.command.Command.{Command}
 use Rattle.wb_states.specs.declared.command.Command.TheVariants as of
 use Rattle.wb_states.specs.declared.query.Query.{Query}
-use Rattle.wb_states.specs.Holds.{taken_as}
+use Rattle.wb_states.specs.Holds.{holder_of}
 use Rattle.wb_states.specs.Machine.{Machine}
-use Rattle.wb_states.specs.Queue.{Entry}
-use Rattle.wb_keys.specs.declared.right.Right.{Right}
-use Rattle.wb_keys.specs.declared.right.Right.TheVariants.{Read, Build, Port, Operate}
 use Rattle.wb_keys.specs.declared.right.Kind.{Kind}
 use Rattle.wb_keys.specs.declared.right.Kind.TheVariants as kind
+use Rattle.wb_keys.specs.declared.right.Right.{Right}
+use Rattle.wb_keys.specs.declared.right.Right.TheVariants.{Read, Build, Port, Operate}
+use Rattle.wb_keys.specs.declared.right.Rights.{Rights}
+use Rattle.wb_keys.specs.declared.right.Rights.TheVariants as rights
+
+-- ---- the rights of a request
+
+-- the rights by what a program refers to: those to everything are `operate` alone
+abbrev pub rights_named : Rights → List Right
+rights_named rights.Everything = Operate ∷ []
+rights_named (rights.These listed) = listed.now
 
 -- ---- what a command needs
 
@@ -85,10 +94,6 @@ allows rights holder command = list_any (λ right. meets right holder (need_of c
 
 -- ---- who holds a take number
 
--- the holder of the record that is held under a take number, or nobody
-unfoldable pub holder_of : Machine → ℕ → Option (List ℕ)
-holder_of machine take_number = option_and_then (λ (entry : Entry). entry.1.holder) (taken_as machine take_number)
-
 -- the take number of a need
 abbrev pub number_in : Need → Option ℕ
 number_in Everything = None
@@ -103,6 +108,35 @@ number_of command = number_in (need_of command)
 -- who holds the take number that a command reports under, or nobody
 abbrev pub holder_for : Machine → Command → Option (List ℕ)
 holder_for machine command = option_and_then (holder_of machine) (number_of command)
+
+-- ---- whose holder has to be known
+
+-- the right of a builder
+abbrev pub is_build : Right → Bool
+is_build Read = false
+is_build (Build builder) = true
+is_build (Port arch) = false
+is_build Operate = false
+
+-- the right to everything
+abbrev pub is_operate : Right → Bool
+is_operate Read = false
+is_operate (Build builder) = false
+is_operate (Port arch) = false
+is_operate Operate = true
+
+-- for these rights it counts who holds a take number: one is that of a builder, and none is that to everything
+abbrev pub asks_holder : List Right → Bool
+asks_holder rights = list_any is_build rights && not (list_any is_operate rights)
+
+-- the take number whose holder has to be known before a line with these rights may give a command or not: the one that
+-- the command reports under, if it counts for the rights who holds it
+abbrev pub holder_needed : List Right → Command → Option ℕ
+holder_needed rights command = if asks_holder rights then number_of command else None
+
+-- who holds the take number whose holder has to be known, or nobody
+abbrev pub needed_holder : List Right → Machine → Command → Option (List ℕ)
+needed_holder rights machine command = option_and_then (holder_of machine) (holder_needed rights command)
 
 -- ---- what may be asked of an office
 

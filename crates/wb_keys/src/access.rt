@@ -1,11 +1,11 @@
 //! Who may ask an office for what: everybody, or who has a key.
-ghost use Rattle.std.specs.Prelude.{◌≡◌, IfOk};
-ghost use Rattle.std.specs.Option.{option_copied};
-ghost use Rattle.wb_keys.specs.Access.{everybody, name_of, rights_of};
+ghost use Rattle.std.specs.Prelude.{◌≡◌};
+ghost use Rattle.std.specs.Option.{option_copied, option_map};
+ghost use Rattle.wb_keys.specs.Access.{name_of, rights_by_keys, rights_of};
+ghost use Rattle.wb_keys.specs.Rights.{rights_named};
 
-use crate::{Keys, Right};
-use deb_text::{Items, Text};
-use std::alloc::{AllocError, Global};
+use crate::{Keys, Right, Rights};
+use deb_text::Text;
 
 /// What a request shows of a key (this project's own).
 #[derive(Clone, Copy, Debug)]
@@ -21,35 +21,38 @@ pub enum Shown {
 /// Who may ask an office for what (this project's own).
 #[derive(Debug, Drop)]
 pub enum Access {
-    /// Everybody for what these rights allow, whatever a request shows.
-    Everybody(Items<Right>),
+    /// Everybody for everything, whatever a request shows: that of an office without keys.
+    Everybody,
     /// Who has a key for what its line allows, and everybody for what the line `*` allows.
     ByKeys(Keys),
 }
 
-impl Access {
-    /// That of an office without keys: everybody for everything. The only error is that there is no
-    /// memory for it (this project's own).
-    pub fn everybody(alloc: Global) -> Result<Access, AllocError>
-        ensures value { IfOk result (λ access. access ≡ everybody) }
-    {
-        let mut rights = Items::new(alloc);
-        rights.push(Right::Operate)?;
-        Ok(Access::Everybody(rights))
+/// The rights of a request by the lines of keys, or none if it is refused.
+fn rights_by_keys<'a>(keys: &'a Keys, shown: &Shown) -> Option<&'a [Right]>
+    ensures { option_copied result ≡ rights_by_keys keys.now shown.now }
+{
+    match shown {
+        Shown::Nothing => match &keys.anyone {
+            Some(rights) => Some(rights.as_slice()),
+            None => None,
+        },
+        Shown::Malformed => None,
+        Shown::Hash(hash) => keys.rights_by_hash(hash),
     }
+}
 
-    /// The rights of a request that shows this of a key. None if it is refused for its lack of a
-    /// key: it shows nothing and there is no line `*`, or it shows a key that is malformed or on no
-    /// line, whatever the line `*` allows. Takes no memory (this project's own).
-    pub fn rights_of(&self, shown: &Shown) -> Option<&[Right]>
-        ensures value { option_copied result ≡ rights_of self.now shown.now }
+impl Access {
+    /// The rights of a request that shows this of a key: everything in an office without keys. None
+    /// if it is refused for its lack of a key: it shows nothing and there is no line `*`, or it
+    /// shows a key that is malformed or on no line, whatever the line `*` allows. Takes no memory
+    /// (this project's own).
+    pub fn rights_of(&self, shown: &Shown) -> Option<Rights<'_>>
+        ensures value { option_map rights_named result ≡ rights_of self.now shown.now }
     {
-        match (self, shown) {
-            (Access::Everybody(rights), _) => Some(rights.as_slice()),
-            (Access::ByKeys(_), Shown::Malformed) => None,
-            (Access::ByKeys(keys), Shown::Hash(hash)) => keys.rights_by_hash(hash),
-            (Access::ByKeys(keys), Shown::Nothing) => match &keys.anyone {
-                Some(rights) => Some(rights.as_slice()),
+        match self {
+            Access::Everybody => Some(Rights::Everything),
+            Access::ByKeys(keys) => match rights_by_keys(keys, shown) {
+                Some(rights) => Some(Rights::These(rights)),
                 None => None,
             },
         }

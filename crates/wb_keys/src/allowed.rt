@@ -1,12 +1,14 @@
 //! What rights allow, in two steps: by the path of a request, and by what its body says.
-ghost use Rattle.std.specs.Prelude.{◌≡◌, ◌↔◌, true};
+ghost use Rattle.std.specs.Prelude.{◌≡◌, true};
+ghost use Rattle.std.specs.List.{list_any};
 ghost use Rattle.std.specs.Option.{option_copied};
 ghost use Rattle.wb_states.specs.Machine.{Machine};
-ghost use Rattle.wb_keys.specs.Rights.{allows, holder_for, is_for, is_own, may_ask_for};
-ghost use Rattle.wb_keys.specs.Rights.{may_command, meets, need_of, number_of};
 ghost use Rattle.wb_keys.specs.Needs.{need_named};
+ghost use Rattle.wb_keys.specs.Rights.{allows, asks_holder, holder_for, holder_needed, is_build, is_for};
+ghost use Rattle.wb_keys.specs.Rights.{is_operate, is_own, may_ask_for, may_command, meets, need_of};
+ghost use Rattle.wb_keys.specs.Rights.{needed_holder, number_of, rights_named};
 
-use crate::{Kind, Right};
+use crate::{Kind, Right, Rights};
 use deb_text::Text;
 use wb_states::Command;
 
@@ -86,29 +88,74 @@ pub fn take_number_of(command: &Command) -> Option<u64>
     }
 }
 
-/// Whether a line with these rights has one for requests of this kind, which the path of a request
-/// says. If it has none, no body is read. Takes no memory (this project's own).
-pub fn may_ask(rights: &[Right], kind: Kind) -> bool
-    ensures value { result ≡ may_ask_for rights.now kind }
+fn has_build(rights: &[Right]) -> bool
+    ensures { result ≡ list_any is_build rights.now }
 {
-    rights.iter().any(|right| is_for(kind, right))
+    rights.iter().any(|right| matches!(right, Right::Build(_)))
 }
 
-fn is_allowed(rights: &[Right], command: &Command, holder: Option<&Text>) -> bool
-    ensures { result ≡ allows rights.now (option_copied holder.entry) command.now }
+fn has_operate(rights: &[Right]) -> bool
+    ensures { result ≡ list_any is_operate rights.now }
 {
+    rights.iter().any(|right| matches!(right, Right::Operate))
+}
+
+/// Whether it counts for these rights who holds a take number.
+fn asks_holder(rights: &[Right]) -> bool
+    ensures { result ≡ asks_holder rights.now }
+{
+    has_build(rights) && !has_operate(rights)
+}
+
+/// The take number whose holder has to be known before `may` can answer whether these rights allow
+/// a command, or none if they decide whoever holds one: then `may` answers the same for every
+/// holder. It is that of a report, for rights with `build=BUILDER` and without `operate`. Takes no
+/// memory (this project's own).
+pub fn holder_needed(rights: Rights<'_>, command: &Command) -> Option<u64>
+    ensures value { result ≡ holder_needed (rights_named rights.entry) command.now }
+{
+    match rights {
+        Rights::These(rights) if asks_holder(rights) => take_number_of(command),
+        Rights::Everything | Rights::These(_) => None,
+    }
+}
+
+/// Whether these rights have one for requests of this kind, which the path of a request says. If
+/// they have none, no body is read. Takes no memory (this project's own).
+pub fn may_ask(rights: Rights<'_>, kind: Kind) -> bool
+    ensures value { result ≡ may_ask_for (rights_named rights.entry) kind }
+{
+    match rights {
+        Rights::Everything => true,
+        Rights::These(rights) => rights.iter().any(|right| is_for(kind, right)),
+    }
+}
+
+fn is_allowed(rights: Rights<'_>, command: &Command, holder: Option<&Text>) -> bool
+    ensures { result
+        ≡ allows (rights_named rights.entry) (option_copied holder.entry) command.now }
+{
+    let Rights::These(rights) = rights else {
+        return true;
+    };
     let need = need_of(command);
     rights.iter().any(|right| meets(right, &need, holder))
 }
 
-/// Whether a line with these rights may give a command, where `holder` holds the take number that
-/// the command reports under: none if nobody does, and for a command that reports under none
-/// (`take_number_of`). Takes no memory (this project's own).
-pub fn may(rights: &[Right], command: &Command, holder: Option<&Text>) -> bool
-    ensures value { result ≡ allows rights.now (option_copied holder.entry) command.now }
+/// Whether these rights allow a command, where `holder` holds the take number that the command
+/// reports under: none if nobody does, and for a command that reports under none
+/// (`take_number_of`). It need not be known where none is needed (`holder_needed`), and is then
+/// given as none. Takes no memory (this project's own).
+pub fn may(rights: Rights<'_>, command: &Command, holder: Option<&Text>) -> bool
+    ensures value { result
+        ≡ allows (rights_named rights.entry) (option_copied holder.entry) command.now }
     ensures machine { (machine : Machine)
         → option_copied holder.entry ≡ holder_for machine command.now
-        → result ≡ may_command rights.now machine command.now }
+        → result ≡ may_command (rights_named rights.entry) machine command.now }
+    ensures needed { (machine : Machine)
+        → option_copied holder.entry
+        ≡ needed_holder (rights_named rights.entry) machine command.now
+        → result ≡ may_command (rights_named rights.entry) machine command.now }
 {
     is_allowed(rights, command, holder)
 }

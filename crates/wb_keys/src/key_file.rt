@@ -1,19 +1,16 @@
 //! What a key file means, or its first malformed line.
 ghost use Rattle.std.specs.Prelude.{◌≡◌, IfOk, IfSome, None, map, true, false};
-ghost use Rattle.std.specs.List.{list_all, list_any, slice_split};
+ghost use Rattle.std.specs.List.{list_all, slice_split};
 ghost use Rattle.std.specs.Str.{is_utf8};
 ghost use Rattle.deb_text.specs.Lines.{is_line_feed, words_in};
 ghost use Rattle.deb_text.specs.Lists.{begins};
-ghost use Rattle.wb_keys.specs.KeyFile.{all_rights, anyone_line, builder_right, front_of, has_hash};
-ghost use Rattle.wb_keys.specs.KeyFile.{has_name};
-ghost use Rattle.wb_keys.specs.KeyFile.{hash_of, is_hash_digit, is_number_sign, key_limit};
-ghost use Rattle.wb_keys.specs.KeyFile.{keyed_line, keys_of};
-ghost use Rattle.wb_keys.specs.KeyFile.{last_hash, line_of, line_of_words, line_with, named_right};
-ghost use Rattle.wb_keys.specs.KeyFile.{no_keys};
-ghost use Rattle.wb_keys.specs.KeyFile.{porter_right, right_of, rights_in, with_anyone, with_key};
-ghost use Rattle.wb_keys.specs.KeyFile.{with_line, with_said};
+ghost use Rattle.wb_keys.specs.KeyFile.{all_rights, anyone_line, builder_right, front_of, hash_of};
+ghost use Rattle.wb_keys.specs.KeyFile.{is_hash_digit, is_number_sign, keyed_line, keys_of, last_hash};
+ghost use Rattle.wb_keys.specs.KeyFile.{line_of, line_of_words, line_with, named_right, porter_right};
+ghost use Rattle.wb_keys.specs.KeyFile.{right_of, rights_in, with_anyone, with_key, with_line};
+ghost use Rattle.wb_keys.specs.KeyFile.{with_said};
 
-use crate::{BadLine, KeyLine, Keys, LineFault, Right};
+use crate::{BadLine, KeyLine, Keys, LineFault, Lines, Right};
 use deb_text::{Items, Text};
 use hex::FromHex;
 use std::alloc::{AllocError, Global};
@@ -259,35 +256,21 @@ fn line_of(alloc: Global, line: &[u8]) -> Result<Result<Line, LineFault>, AllocE
 
 // ---- a file
 
-fn has_name(keys: &Keys, name: &Text) -> bool
-    ensures { result ≡ list_any (has_name name.now) keys.now.lines }
-{
-    keys.lines.as_slice().iter().any(|line| line.name == *name)
-}
-
-fn has_hash(keys: &Keys, hash: &[u8; 32]) -> bool
-    ensures { result ≡ list_any (has_hash hash.now) keys.now.lines }
-{
-    keys.lines.as_slice().iter().any(|line| line.hash == *hash)
-}
-
-// Each line is compared with those before it: a file of 1,000 lines is read in some 40
-// milliseconds, once. A sorted table would be quicker, and its proof longer.
 /// Lines, and one more with a key.
 fn with_key(keys: Keys, line: KeyLine) -> Result<Result<Keys, LineFault>, AllocError>
     ensures { IfOk result (λ found. found ≡ with_key keys line) }
 {
-    if KEY_LIMIT <= keys.lines.as_slice().len() {
+    if KEY_LIMIT <= keys.lines.len() {
         return Ok(Err(LineFault::TooMany));
     }
-    if has_name(&keys, &line.name) {
+    if keys.lines.has_name(&line.name) {
         return Ok(Err(LineFault::NameTwice));
     }
-    if has_hash(&keys, &line.hash) {
+    if keys.lines.has_hash(&line.hash) {
         return Ok(Err(LineFault::HashTwice));
     }
-    let Keys { mut lines, anyone } = keys;
-    lines.push(line)?;
+    let Keys { lines, anyone } = keys;
+    let lines = lines.with(line)?;
     Ok(Ok(Keys { lines, anyone }))
 }
 
@@ -351,7 +334,7 @@ impl Keys {
     {
         let lines = lines_in(alloc, file)?;
         let mut keys = Keys {
-            lines: Items::new(alloc),
+            lines: Lines::new(alloc),
             anyone: None,
         };
         let mut number = 1;

@@ -1,9 +1,9 @@
 //! The lines of a key file, and the line of a key.
 ghost use Rattle.std.specs.Prelude.{◌≡◌};
 ghost use Rattle.std.specs.Option.{option_copied};
-ghost use Rattle.wb_keys.specs.KeyFile.{has_hash, line_by_hash, rights_by_hash};
+ghost use Rattle.wb_keys.specs.KeyFile.{line_by_hash, rights_by_hash};
 
-use crate::Right;
+use crate::{Lines, Right};
 use deb_text::{Items, Text};
 
 /// A line with a key (this project's own).
@@ -21,30 +21,18 @@ pub struct KeyLine {
 #[derive(Debug, Drop)]
 pub struct Keys {
     /// The lines with a key, at most 1000, in their order.
-    pub lines: Items<KeyLine>,
+    pub lines: Lines,
     /// The rights of the line `*`, for requests without a key; none if there is no such line.
     pub anyone: Option<Items<Right>>,
 }
 
-fn has_hash(line: &KeyLine, hash: &[u8; 32]) -> bool
-    ensures { result ≡ has_hash hash.now line.now }
-{
-    line.hash == *hash
-}
-
 impl Keys {
-    // A scan: 1,000 lines take some eight microseconds, since nearly all comparisons end at the
-    // first byte. How long one takes says nothing of a key, since nobody can choose what its hash
-    // begins with.
     /// The line with this hash, or none if no line has it. Takes no memory (this project's own).
     #[tactic(auto, unfolding(crate::specs::KeyFile::line_by_hash))]
     pub fn line_by_hash(&self, hash: &[u8; 32]) -> Option<&KeyLine>
         ensures value { option_copied result ≡ line_by_hash self.now hash.now }
     {
-        self.lines
-            .as_slice()
-            .iter()
-            .find(|line| has_hash(line, hash))
+        self.lines.by_hash(hash)
     }
 
     /// The rights of the line with this hash, or none if no line has it. Takes no memory (this

@@ -1,5 +1,5 @@
 //! Laws of the definitions, each on a function that does nothing.
-ghost use Rattle.std.specs.Prelude.{◌≡◌, ◌≤◌, ℕ, true, List, [], ◌∷◌, Some, None, IfSome, Ok};
+ghost use Rattle.std.specs.Prelude.{◌≡◌, ◌≤◌, ℕ, true, List, [], ◌∷◌, Option, Some, None, IfSome, Ok};
 ghost use Rattle.std.specs.Prelude.{◌++◌, codes, false, length};
 ghost use Rattle.deb_text.specs.Lists.{IsIn, is_nonempty};
 ghost use Rattle.wb_states.specs.declared.command.Command.{Command};
@@ -20,8 +20,9 @@ ghost use Rattle.wb_keys.specs.Access.{everybody, rights_of};
 ghost use Rattle.wb_keys.specs.Examples.{b1_line, bad, zeros};
 ghost use Rattle.wb_keys.specs.Key.{is_key_text};
 ghost use Rattle.wb_keys.specs.KeyFile.{key_limit, keys_of, line_by_hash, no_keys};
-ghost use Rattle.wb_keys.specs.Rights.{kind_of, may_ask_for, may_command, may_query};
 ghost use Rattle.wb_keys.specs.Own.{IsForArch, IsOfBuilder};
+ghost use Rattle.wb_keys.specs.Rights.{allows, holder_needed, kind_of, may_ask_for, may_command};
+ghost use Rattle.wb_keys.specs.Rights.{may_query, needed_holder, number_of};
 
 /// A command that may be given may be asked for by its kind: what is refused by its path alone
 /// would be refused by what its body says.
@@ -58,6 +59,24 @@ pub fn operators_may_everything()
     ensures queries { (rights : List Right) (query : Query)
         → IsIn Operate rights → may_query rights query ≡ true }
     ensures everybody { (shown : Shown) → rights_of everybody shown ≡ Some (Operate ∷ []) }
+{}
+
+/// Where no holder is needed, rights decide on a command whoever holds the take number that it
+/// reports under; the right `operate` needs none. Where one is needed, it is that of this number.
+/// So a command is allowed by the state of an office exactly if it is by the holder that is needed.
+/// Source: this project's own.
+pub fn holders_count_where_they_are_needed()
+    ensures decided { (rights : List Right) (command : Command) (one other : Option (List ℕ))
+        → holder_needed rights command ≡ None
+        → allows rights one command ≡ allows rights other command }
+    ensures operate { (rights : List Right) (command : Command)
+        → IsIn Operate rights → holder_needed rights command ≡ None }
+    ensures number { (rights : List Right) (command : Command) (take_number : ℕ)
+        → holder_needed rights command ≡ Some take_number
+        → number_of command ≡ Some take_number }
+    ensures machine { (rights : List Right) (machine : Machine) (command : Command)
+        → allows rights (needed_holder rights machine command) command
+        ≡ may_command rights machine command }
 {}
 
 /// The right `build=BUILDER` alone allows no other commands than `next` and `take` in the name of

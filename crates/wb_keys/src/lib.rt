@@ -8,12 +8,14 @@ mod key;
 mod key_file;
 mod keys;
 pub mod laws;
+mod lines;
 mod right;
 
 pub use access::{Access, Shown};
-pub use allowed::{may, may_ask, take_number_of};
+pub use allowed::{holder_needed, may, may_ask, take_number_of};
 pub use fault::{BadLine, LineFault};
 pub use key::{hash_of_key, is_key_form};
 pub use key_file::KEY_LIMIT;
 pub use keys::{KeyLine, Keys};
-pub use right::{Kind, Right};
+pub use lines::Lines;
+pub use right::{Kind, Right, Rights};

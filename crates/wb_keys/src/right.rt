@@ -16,6 +16,16 @@ pub enum Right {
     Operate,
 }
 
+/// The rights of a request (this project's own).
+#[derive(Clone, Copy, Debug)]
+pub enum Rights<'a> {
+    /// To everything, which is the right `operate` alone: those of everybody in an office without
+    /// keys.
+    Everything,
+    /// Those of a line of a key file.
+    These(&'a [Right]),
+}
+
 /// Which right a request needs, as far as its path says, before its body is read (this project's
 /// own).
 #[derive(Clone, Copy, Debug, PartialEq, Eq)]
