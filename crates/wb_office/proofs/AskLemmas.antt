@@ -1,5 +1,6 @@
 -- What an office over tables answers to a query, and how it stands then.
-use Rattle.std.proofs.Common.{◌≡◌, ◌≢◌, inl, inr, true, false, not, cond, Bool, ℕ, List, map as each, Option, is_some}
+use Rattle.std.proofs.Common.{◌≡◌, ◌≢◌, inl, inr, true, false, not, cond, Bool, ℕ, List, map as each, Option, None, Some, is_some}
+use Rattle.std.specs.Option.{option_and_then, option_map}
 use Rattle.std.proofs.Common.{Result, Ok, Err, IfOk, IfErr, refl, sym, ap, subst, ◌∙◌}
 use Rattle.std.proofs.lemmas.Bool.{both_ways}
 use Rattle.std.specs.FinMap as map
@@ -11,7 +12,7 @@ use Rattle.wb_states.specs.declared.refusal.Refusal.{Refusal}
 use Rattle.wb_states.specs.declared.refusal.Refusal.TheVariants.{BadName, Closed, Memory, Store, UnknownArch}
 use Rattle.wb_states.specs.declared.refusal.Refusal.TheVariants.{UnknownBuilder}
 use Rattle.wb_states.specs.declared.store_fault.StoreFault.{StoreFault}
-use Rattle.wb_states.specs.Holds.{held_of}
+use Rattle.wb_states.specs.Holds.{held_of, holder_of, taken_as}
 use Rattle.wb_states.specs.Machine.{Key, Machine}
 use Rattle.wb_states.specs.Refusals.{IsOfMachine}
 use Rattle.wb_states.specs.declared.keyed.KeyedRecord.{KeyedRecord}
@@ -98,9 +99,27 @@ mine-is machine builder rows known held = sym (λ i. cond (known i) (Err Unknown
 pub mine-unknown : (machine : Machine) (builder : List ℕ) → is_unknown_builder machine builder ≡ true → Err UnknownBuilder ≡ mine_in machine builder
 mine-unknown machine builder unknown = sym (λ i. cond (unknown i) (Err UnknownBuilder) (Ok (Mine builder (each keyed (held_of machine builder)))))
 
+-- ---- who holds a take number
+
+-- the holder of the record that was found is that of the state
+pub holder-found : (machine : Machine) (take_number : ℕ) (found : Option KeyedRecord) → option_map entry_of found ≡ taken_as machine take_number
+    → option_and_then (λ (row : KeyedRecord). row.current.holder) found ≡ holder_of machine take_number
+unfolding holder_of
+holder-found machine take_number None is = ap (option_and_then (λ (entry : Entry). entry.1.holder)) is
+holder-found machine take_number (Some row) is = ap (option_and_then (λ (entry : Entry). entry.1.holder)) is
+
+-- what is answered is the holder
+pub holder-answered : {holder answer : Option (List ℕ)} → ◌≡◌ {A = Result (Option (List ℕ)) Refusal} (Ok holder) (Ok answer) → answer ≡ holder
+holder-answered is = cc
+
+-- a state refuses nobody who asks for a holder
+pub holder-has-no-store : (take_number : ℕ) (machine : Machine) (refusal : Refusal) → is_of_store refusal ≡ true
+    → ¬ ◌≡◌ {A = Result (Option (List ℕ)) Refusal} (Ok (holder_of machine take_number)) (Err refusal)
+holder-has-no-store take_number machine refusal of_store is = cc
+
 -- ---- one query
 
-module _ {S : Type 0} {g : Ghosts S} {answer_of : Machine → Result Answer Refusal} {is_bad was_closed : Bool} {was_known : Known} {old : Held S} where
+module _ {S A : Type 0} {g : Ghosts S} {answer_of : Machine → Result A Refusal} {is_bad was_closed : Bool} {was_known : Known} {old : Held S} where
   -- a closed office says so
   pub asked_shut : was_closed ≡ true → Asks g answer_of is_bad was_closed was_known old was_closed was_known old (Err Closed)
   asked_shut closed = record {
@@ -127,7 +146,7 @@ module _ {S : Type 0} {g : Ghosts S} {answer_of : Machine → Result Answer Refu
   }
 
   -- the look-ups succeed
-  pub asked_found : {answer_in : Machine → Result Answer Refusal} {new : Held S} (r : Result Answer Refusal) → was_closed ≡ false → is_bad ≡ false → ((machine : Machine) → answer_of machine ≡ answer_in machine)
+  pub asked_found : {answer_in : Machine → Result A Refusal} {new : Held S} (r : Result A Refusal) → was_closed ≡ false → is_bad ≡ false → ((machine : Machine) → answer_of machine ≡ answer_in machine)
       → IfErr r (λ refusal. is_of_store refusal ≡ false) → Finds g (λ machine answer. answer ≡ answer_in machine) old new (Ok r) → Asks g answer_of is_bad was_closed was_known old was_closed was_known new r
   asked_found {new = new} r opened is_good same of_state finds = record {
     was_clean = was_clean (state g old) (state g new) finds.survives;
@@ -142,7 +161,7 @@ module _ {S : Type 0} {g : Ghosts S} {answer_of : Machine → Result Answer Refu
         inl (same machine ∙ sym at.1, at.0, opened, kept);
   }
     where
-      found_stands : (r : Result Answer Refusal) → IfErr r (λ refusal. is_of_store refusal ≡ false) → StandsOn (was_closed ≡ true) r
+      found_stands : (r : Result A Refusal) → IfErr r (λ refusal. is_of_store refusal ≡ false) → StandsOn (was_closed ≡ true) r
       found_stands (Ok answer) of_state = record { ok = λ closed. both_ways was_closed opened closed; never = λ is. cc; ends = tt; opens = tt }
       found_stands (Err refusal) of_state = record {
         ok = tt;
@@ -152,7 +171,7 @@ module _ {S : Type 0} {g : Ghosts S} {answer_of : Machine → Result Answer Refu
       }
 
   -- a look-up fails
-  pub asked_unread : {Answers : Machine → Result Answer Refusal → Type 0} {at new : Held S} {is_closed : Bool} {e : StoreFault} {refusal : Refusal} → was_closed ≡ false → is_bad ≡ false
+  pub asked_unread : {B : Type 0} {Answers : Machine → B → Type 0} {at new : Held S} {is_closed : Bool} {e : StoreFault} {refusal : Refusal} → was_closed ≡ false → is_bad ≡ false
       → Finds g Answers old at (Err e) → EndsWith g e at new refusal is_closed → Asks g answer_of is_bad was_closed was_known old is_closed was_known new (Err refusal)
   asked_unread {at = at} {e = e} {refusal = refusal} opened is_good finds ends = record {
     was_clean = λ clean. was_clean (state g old) (state g at) finds.survives (ends.was_clean clean);
@@ -182,8 +201,8 @@ module _ {S : Type 0} {g : Ghosts S} {answer_of : Machine → Result Answer Refu
 
 -- ---- the office that answers queries
 
-module _ {S : Type 0} {g : Ghosts S} {answer_of : Machine → Result Answer Refusal} {is_bad : Bool} {was_closed : Bool} {was_known : Known} {old : Held S} {is_closed : Bool} {known : Known} {new : Held S}
-    {r : Result Answer Refusal} (h : Asks g answer_of is_bad was_closed was_known old is_closed known new r)
+module _ {S A : Type 0} {g : Ghosts S} {answer_of : Machine → Result A Refusal} {is_bad : Bool} {was_closed : Bool} {was_known : Known} {old : Held S} {is_closed : Bool} {known : Known} {new : Held S}
+    {r : Result A Refusal} (h : Asks g answer_of is_bad was_closed was_known old is_closed known new r)
     (of_state : (machine : Machine) (refusal : Refusal) → is_of_store refusal ≡ true → ¬ (answer_of machine ≡ Err refusal))
     (machine : Machine) (clean : HasCleanDisk (state g new)) (stands : StandsAt machine was_closed was_known (state g old)) where
   -- however it is answered, the office stands as it did
@@ -209,7 +228,7 @@ module _ {S : Type 0} {g : Ghosts S} {answer_of : Machine → Result Answer Refu
   unread_is unread other = ap is_of_store unread.told ∙ of_fault unread.fault (λ is. other (unread.told ∙ is))
 
   -- what is answered, but that it is closed or out of memory, is answered of the state
-  is_answer : (result : Result Answer Refusal) → r ≡ result → IfErr result (λ refusal. (refusal ≢ Memory) × (is_of_store refusal ≡ false)) → answer_of machine ≡ result
+  is_answer : (result : Result A Refusal) → r ≡ result → IfErr result (λ refusal. (refusal ≢ Memory) × (is_of_store refusal ≡ false)) → answer_of machine ≡ result
   is_answer result is plain = open_or_shut was_closed
       (λ closed. absurd (shut_plain (subst (λ x. IfErr x (λ refusal. (refusal ≢ Memory) × (is_of_store refusal ≡ false))) (sym is ∙ (h.shut closed).0) plain)))
       (λ opened. at_answer (h.asked clean machine stands opened))
@@ -229,14 +248,14 @@ module _ {S : Type 0} {g : Ghosts S} {answer_of : Machine → Result Answer Refu
   pub asked_answer : IfOk r (λ answer. (answer_of machine ≡ Ok answer) × StandsAt machine is_closed known (state g new))
   asked_answer = at_ok r refl
     where
-      at_ok : (result : Result Answer Refusal) → r ≡ result → IfOk result (λ answer. (answer_of machine ≡ Ok answer) × StandsAt machine is_closed known (state g new))
+      at_ok : (result : Result A Refusal) → r ≡ result → IfOk result (λ answer. (answer_of machine ≡ Ok answer) × StandsAt machine is_closed known (state g new))
       at_ok (Ok answer) is = (is_answer (Ok answer) is tt, stays)
       at_ok (Err refusal) is = tt
 
   pub asked_refused : IfErr r (λ refusal. IsOfMachine refusal → is_of_store refusal ≡ false → (answer_of machine ≡ Err refusal) × StandsAt machine is_closed known (state g new))
   asked_refused = at_err r refl
     where
-      at_err : (result : Result Answer Refusal) → r ≡ result
+      at_err : (result : Result A Refusal) → r ≡ result
           → IfErr result (λ refusal. IsOfMachine refusal → is_of_store refusal ≡ false → (answer_of machine ≡ Err refusal) × StandsAt machine is_closed known (state g new))
       at_err (Ok answer) is = tt
       at_err (Err refusal) is = λ of_machine no_store. (is_answer (Err refusal) is (of_machine, no_store), stays)
@@ -244,10 +263,10 @@ module _ {S : Type 0} {g : Ghosts S} {answer_of : Machine → Result Answer Refu
   pub asked_memory : r ≡ Err Memory → (is_bad ≡ false) × StandsAt machine is_closed known (state g new)
   asked_memory is = (formed, stays)
     where
-      closed_is_not_memory : ¬ ◌≡◌ {A = Result Answer Refusal} (Err Closed) (Err Memory)
+      closed_is_not_memory : ¬ ◌≡◌ {A = Result A Refusal} (Err Closed) (Err Memory)
       closed_is_not_memory same = cc
 
-      bad_is_not_memory : ¬ ◌≡◌ {A = Result Answer Refusal} (Err BadName) (Err Memory)
+      bad_is_not_memory : ¬ ◌≡◌ {A = Result A Refusal} (Err BadName) (Err Memory)
       bad_is_not_memory same = cc
 
       formed : is_bad ≡ false
@@ -276,7 +295,7 @@ module _ {S : Type 0} {g : Ghosts S} {answer_of : Machine → Result Answer Refu
   asked_store f is = open_or_shut was_closed (λ closed. absurd (store_is_not_closed (sym is ∙ (h.shut closed).0))) (λ opened.
       (record { closed = closes (h.asked clean machine stands opened); left = either_of machine (state g new) stays.back }, failed opened (h.asked clean machine stands opened)))
     where
-      store_is_not_closed : ¬ ◌≡◌ {A = Result Answer Refusal} (Err (Store f)) (Err Closed)
+      store_is_not_closed : ¬ ◌≡◌ {A = Result A Refusal} (Err (Store f)) (Err Closed)
       store_is_not_closed same = cc
 
       no_memory : ¬ (Store f ≡ Memory)

@@ -1,4 +1,5 @@
--- How a report is carried out over tables: its lines are read, the records that they name are looked up, and what differs is kept.
+-- How a report is carried out over tables: its lines are read, the records that they name are looked up, and what
+-- differs is kept.
 use Rattle.std.proofs.Common.{◌≡◌, ◌∙◌, refl, sym, ap, subst, inl, inr, ℕ, ◌+◌, false, cond, not, ◌||◌, List, [], ◌∷◌, ◌++◌, map as each, length, drop, get_or, ◌<◌, Option, Some, None, option_map, option_and_then, Result, Ok, Err, IfOk, bytes_eq, append_assoc}
 use Rattle.std.proofs.lemmas.List.{map-append}
 use Rattle.std.specs.List.{cons_option, list_any}

@@ -59,7 +59,8 @@ AreOf counts archs machine = AreCountsOf machine counts × (archs ≡ map.entrie
 abbrev pub IsNamed : Command → Machine → Option Key → Machine → Type 0
 IsNamed command part key machine = (part ≡ part_named machine command) × (key ≡ key_put machine command)
 
--- a step of the command in a part of the office was written in a transaction, which began after look-ups that changed nothing, and ended with this failure
+-- a step of the command in a part of the office was written in a transaction, which began after look-ups that changed
+-- nothing, and ended with this failure
 abbrev pub FailsToKeepStep : {S : Type 0} → Ghosts S → Machine → Command → Held S → Held S → CarryError → Type 0
 FailsToKeepStep {S} g machine command old new failure =
     (at : Held S) × (key : Option Key) × (after : Machine) × StaysAs g old at × IsStepOf machine command key after × EndsFor g command key after machine at new failure
@@ -85,15 +86,17 @@ IsUncommitted g machine command old new (Uncommitted failure) =
     × (FailsToKeepStep g machine command old new failure
     ⊎ (FailsToKeepMerge g machine command old new failure ⊎ FailsToKeepReport g machine command old new failure))
 
--- why a command is not carried out, and where the office is left: it is refused, or a look-up failed, and nothing is changed; or what it changed
--- was not committed, and the office is as it was, or, if the commit is in doubt, as it was or as the command makes it
+-- why a command is not carried out, and where the office is left: it is refused, or a look-up failed, and nothing is
+-- changed; or what it changed was not committed, and the office is as it was, or, if the commit is in doubt, as it was
+-- or as the command makes it
 abbrev pub IsLeft : {S : Type 0} → Ghosts S → Machine → Command → Held S → Held S → Failure → Type 0
 IsLeft g machine command old new (Refused refusal) =
     (IsOfMachine refusal → (step machine command).0 ≡ Err refusal) × ((refusal ≡ Memory → MayWantMemory command) × IsSettled machine (state g new))
 IsLeft g machine command old new (Unread fault) = FailsToFind g old new fault × IsBackAt machine (state g new)
 IsLeft g machine command old new (Uncommitted failure) = IsUncommitted g machine command old new (Uncommitted failure)
 
--- what a step in a part of the office changed, written to the tables of the whole office; if it succeeds, the tables of others keep their rows
+-- what a step in a part of the office changed, written to the tables of the whole office; if it succeeds, the tables of
+-- others keep their rows
 pub record KeepsStep {S A : Type 0} (g : Ghosts S) (command : Command) (key : Option Key) (after : Machine) (old new : Held S) (result : Result A Failure) : Type 0 where
   pub was_clean : HasCleanDisk (state g new) → HasCleanDisk (state g old)
   pub limit : new.step_limit ≡ old.step_limit
@@ -105,7 +108,8 @@ pub record KeepsStep {S A : Type 0} (g : Ghosts S) (command : Command) (key : Op
       → OnOk result (KeepsOthers (state g old).now (state g new).now)
   pub of_step : IfErr result IsOfStep
 
--- what a report changed, written to the tables of the whole office; if it succeeds, the tables of others keep their rows
+-- what a report changed, written to the tables of the whole office; if it succeeds, the tables of others keep their
+-- rows
 pub record KeepsReport {S A : Type 0} (g : Ghosts S) (report : Report) (rows : List Entry) (counts : Counts) (old new : Held S) (result : Result A Failure) : Type 0 where
   pub was_clean : HasCleanDisk (state g new) → HasCleanDisk (state g old)
   pub limit : new.step_limit ≡ old.step_limit
@@ -117,8 +121,9 @@ pub record KeepsReport {S A : Type 0} (g : Ghosts S) (report : Report) (rows : L
       → OnOk result (KeepsOthers (state g old).now (state g new).now)
   pub of_step : IfErr result IsOfStep
 
--- a command carried out over the tables of a consistent office of which this is true: the reply is that of the step, after which the tables are
--- settled at its state, with these counts, and the tables of others keep their rows; or a failure leaves the office as above
+-- a command carried out over the tables of a consistent office of which this is true: the reply is that of the step,
+-- after which the tables are settled at its state, with these counts, and the tables of others keep their rows; or a
+-- failure leaves the office as above
 pub record Answers {S : Type 0} (g : Ghosts S) (Given : Machine → Type 0) (command : Command) (old new : Held S) (result : Result Answered Failure) : Type 0 where
   pub was_clean : HasCleanDisk (state g new) → HasCleanDisk (state g old)
   pub limit : new.step_limit ≡ old.step_limit
@@ -132,9 +137,9 @@ pub record Answers {S : Type 0} (g : Ghosts S) (Given : Machine → Type 0) (com
   pub of_step : IfErr result IsOfStep
   pub utf8 : OnOk result (HasUtf8Texts command)
 
--- a command carried out over the tables of a consistent office by what is known of them: the reply is that of the step, after which they are
--- settled at its state, what is known then is so there, and the tables of others keep their rows; or a failure leaves the office as above, and
--- what is known is so as before
+-- a command carried out over the tables of a consistent office by what is known of them: the reply is that of the step,
+-- after which they are settled at its state, what is known then is so there, and the tables of others keep their rows;
+-- or a failure leaves the office as above, and what is known is so as before
 pub record Responds {S : Type 0} (g : Ghosts S) (command : Command) (was_known : Known) (old : Held S) (known : Known) (new : Held S)
     (result : Result Reply Failure) : Type 0 where
   pub was_clean : HasCleanDisk (state g new) → HasCleanDisk (state g old)

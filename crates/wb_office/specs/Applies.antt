@@ -55,7 +55,8 @@ CannotBeUsed g old new = FailsToRun [] (state g old) (state g new)
 abbrev pub IsNotTakenBack : Failure → Type 0
 IsNotTakenBack failure = (fault : StoreFault) × (failure ≡ Uncommitted (RollBackFailed fault))
 
--- why an office is closed that is out of memory: its connection cannot be used on, or the transaction could not be taken back
+-- why an office is closed that is out of memory: its connection cannot be used on, or the transaction could not be
+-- taken back
 abbrev pub MustClose : {S : Type 0} → Ghosts S → Failure → Held S → Held S → Type 0
 MustClose g failure old new = CannotBeUsed g old new ⊎ IsNotTakenBack failure
 
@@ -84,10 +85,11 @@ pub record Ends {S : Type 0} (g : Ghosts S) (failure : Failure) (old new : Held 
   pub must : IsNotTakenBack failure → (is_closed ≡ true) × (new ≡ old)
   pub same : refusal ≢ Memory → new ≡ old
 
--- an office over tables carries out a command: the reply is that of the step, the office stands at the state after it, and the tables of others
--- keep their rows; a refusal of the state changes nothing; out of memory, it stands as before, and is closed only if its connection cannot be used
--- on, or the transaction could not be taken back; after a fault of the store it is closed, and the command stands whole or not at all; a closed
--- office, and no other, answers that it is closed; and a command whose texts are refused is refused for them, or memory ran out, and nothing is done
+-- an office over tables carries out a command: the reply is that of the step, the office stands at the state after it,
+-- and the tables of others keep their rows; a refusal of the state changes nothing; out of memory, it stands as before,
+-- and is closed only if its connection cannot be used on, or the transaction could not be taken back; after a fault of
+-- the store it is closed, and the command stands whole or not at all; a closed office, and no other, answers that it is
+-- closed; and a command whose texts are refused is refused for them, or memory ran out, and nothing is done
 pub record Applies {S : Type 0} (g : Ghosts S) (command : Command) (was_closed : Bool) (was_known : Known) (old : Held S) (is_closed : Bool) (known : Known) (new : Held S)
     (result : Result Reply Refusal) : Type 0 where
   pub was_clean : HasCleanDisk (state g new) → HasCleanDisk (state g old)
@@ -108,8 +110,8 @@ pub record Applies {S : Type 0} (g : Ghosts S) (command : Command) (was_closed :
       × (refusal ≡ Memory → is_closed ≡ true → MustClose g failure at new) × (IsNotTakenBack failure → (is_closed ≡ true) × (new ≡ at))
       × (refusal ≢ Memory → new ≡ at))
 
--- what is answered after this fault of a call that changed nothing, and whether the office is closed then: out of memory, it is closed only if its
--- connection cannot be used on, and otherwise the connection is open
+-- what is answered after this fault of a call that changed nothing, and whether the office is closed then: out of
+-- memory, it is closed only if its connection cannot be used on, and otherwise the connection is open
 pub record EndsWith {S : Type 0} (g : Ghosts S) (fault : StoreFault) (old new : Held S) (refusal : Refusal) (is_closed : Bool) : Type 0 where
   pub was_clean : HasCleanDisk (state g new) → HasCleanDisk (state g old)
   pub limit : new.step_limit ≡ old.step_limit

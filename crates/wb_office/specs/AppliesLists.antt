@@ -36,10 +36,11 @@ pub record AreListsRefused {S R : Type 0} (g : Ghosts S) (remaining : R → Opti
   pub ends : is_of_store refusal ≡ true → is_closed ≡ true
   pub left : (after : Machine) × (MayLeave remaining sources lists machine after × LeavesEither machine after (state g new))
 
--- an office over tables merges lists that readers give: the reply is one of a merge of what they give, the office stands at the state after it, and the
--- tables of others keep their rows; a refusal of the state changes nothing; out of memory, it stands as before, and is closed only if its connection
--- cannot be used on, or the transaction could not be taken back; after a fault of the store it is closed, and the merge stands whole or not at all; a
--- closed office, and no other, answers that it is closed; and a merge whose names are refused is refused for them, and nothing is done
+-- an office over tables merges lists that readers give: the reply is one of a merge of what they give, the office
+-- stands at the state after it, and the tables of others keep their rows; a refusal of the state changes nothing; out
+-- of memory, it stands as before, and is closed only if its connection cannot be used on, or the transaction could not
+-- be taken back; after a fault of the store it is closed, and the merge stands whole or not at all; a closed office,
+-- and no other, answers that it is closed; and a merge whose names are refused is refused for them, and nothing is done
 pub record AppliesLists {S R : Type 0} (g : Ghosts S) (remaining : R → Option (List ℕ)) (sources : R) (lists : List (ArchList R)) (was_closed : Bool) (was_known : Known) (old : Held S)
     (is_closed : Bool) (known : Known) (new : Held S) (result : Result Reply Refusal) : Type 0 where
   pub was_clean : HasCleanDisk (state g new) → HasCleanDisk (state g old)

@@ -7,7 +7,6 @@ use Rattle.wb_states.specs.declared.refusal.Refusal.{Refusal}
 use Rattle.wb_states.specs.declared.refusal.Refusal.TheVariants.{BadName, Closed, Memory}
 use Rattle.wb_states.specs.declared.store_fault.StoreFault.{StoreFault}
 use Rattle.wb_states.specs.Machine.{Machine}
-use Rattle.wb_states.specs.declared.query.Answer.{Answer}
 use Rattle.wb_states.specs.Refusals.{is_of_store}
 use Rattle.wb_step.specs.Offices.{StandsOn}
 use Rattle.wb_store.specs.Others.{KeepsOthers}
@@ -17,14 +16,15 @@ use Rattle.wb_office.specs.Applies.{CannotBeUsed, refusal_for}
 use Rattle.wb_store.specs.Finds.{FailsToFind}
 use Rattle.wb_office.specs.Standing.{StandsAt}
 
--- a query was looked up, or had to be refused: it has this answer of the state, the office stands open as before, and the tables of others keep
--- their rows
-abbrev pub IsAnswered : {S : Type 0} → Ghosts S → (Machine → Result Answer Refusal) → Machine → Held S → Held S → Bool → Result Answer Refusal → Type 0
+-- a query was looked up, or had to be refused: it has this answer of the state, the office stands open as before, and
+-- the tables of others keep their rows
+abbrev pub IsAnswered : {S A : Type 0} → Ghosts S → (Machine → Result A Refusal) → Machine → Held S → Held S → Bool → Result A Refusal → Type 0
 IsAnswered g answer_of machine old new is_closed result =
     (answer_of machine ≡ result) × IsSettled machine (state g new) × (is_closed ≡ false) × KeepsOthers (state g old).now (state g new).now
 
--- a look-up of a query failed: this is the refusal for its fault, the office has its state as before, and it is open only if its connection is;
--- after a fault of the store it is closed, and out of memory only if its connection cannot be used on
+-- a look-up of a query failed: this is the refusal for its fault, the office has its state as before, and it is open
+-- only if its connection is; after a fault of the store it is closed, and out of memory only if its connection cannot
+-- be used on
 pub record IsUnread {S : Type 0} (g : Ghosts S) (machine : Machine) (old new : Held S) (is_closed : Bool) (refusal : Refusal) : Type 0 where
   pub fault : StoreFault
   pub at : Held S
@@ -37,15 +37,16 @@ pub record IsUnread {S : Type 0} (g : Ghosts S) (machine : Machine) (old new : H
   pub same : refusal ≢ Memory → new ≡ at
 
 -- a query of an office that stands open at this state: it is answered; or a look-up failed
-abbrev pub IsAskedAt : {S : Type 0} → Ghosts S → (Machine → Result Answer Refusal) → Machine → Held S → Bool → Held S → Result Answer Refusal → Type 0
+abbrev pub IsAskedAt : {S A : Type 0} → Ghosts S → (Machine → Result A Refusal) → Machine → Held S → Bool → Held S → Result A Refusal → Type 0
 IsAskedAt g answer_of machine old is_closed new result =
     IsAnswered g answer_of machine old new is_closed result
     ⊎ ((refusal : Refusal) × (result ≡ Err refusal) × IsUnread g machine old new is_closed refusal)
 
--- an office over tables is asked a query with this answer of its state, by names of which one may be malformed: a closed office, and no other,
--- answers that it is closed; for a malformed name it is refused, and nothing is done
-pub record Asks {S : Type 0} (g : Ghosts S) (answer_of : Machine → Result Answer Refusal) (is_bad : Bool) (was_closed : Bool) (was_known : Known) (old : Held S)
-    (is_closed : Bool) (known : Known) (new : Held S) (result : Result Answer Refusal) : Type 0 where
+-- an office over tables is asked a query, or who holds a take number, with this answer of its state, by names of which
+-- one may be malformed: a closed office, and no other, answers that it is closed; for a malformed name it is refused,
+-- and nothing is done
+pub record Asks {S A : Type 0} (g : Ghosts S) (answer_of : Machine → Result A Refusal) (is_bad : Bool) (was_closed : Bool) (was_known : Known) (old : Held S)
+    (is_closed : Bool) (known : Known) (new : Held S) (result : Result A Refusal) : Type 0 where
   pub was_clean : HasCleanDisk (state g new) → HasCleanDisk (state g old)
   pub limit : new.step_limit ≡ old.step_limit
   pub same : known ≡ was_known

@@ -61,9 +61,10 @@ abbrev pub HoldsStep : {S : Type 0} → Ghosts S → Command → Option Key → 
 HoldsStep g command key after old db =
     (whole : Machine) → StandsFor whole (state g old).now → IsStepOf whole command key after → StandsFor (step whole command).1 (record { schema = old.schema; trees = db })
 
--- the change of an accepted command in a transaction of its own, over a connection that is settled at the whole office: if it succeeds, the
--- connection is settled at the office after the command, and the tables of others keep their rows; if it fails, the office is as before, but
--- if the commit is in doubt a crash leaves the one or the other; and a crash after it leaves no third
+-- the change of an accepted command in a transaction of its own, over a connection that is settled at the whole office:
+-- if it succeeds, the connection is settled at the office after the command, and the tables of others keep their rows;
+-- if it fails, the office is as before, but if the commit is in doubt a crash leaves the one or the other; and a crash
+-- after it leaves no third
 pub record CarriesOut {S A : Type 0} (g : Ghosts S) (command : Command) (key : Option Key) (after : Machine) (old new : Held S) (result : Result A CarryError) : Type 0 where
   pub ok : HasCleanDisk (state g new) → (whole : Machine) → IsSettled whole (state g old) → IsStepOf whole command key after
       → OnOk result (IsSettled (step whole command).1 (state g new))

@@ -35,8 +35,8 @@ use Rattle.wb_office.specs.Keys.{key_put}
 abbrev pub IsFresh : Reply → Type 0
 IsFresh reply = (accepted : ℕ) (given : Assignment) → reply ≢ Again accepted given
 
--- a command was accepted in a part of the office, which is `after` then: for the command the part is like the whole office, and in the whole
--- one the command puts the record at this key
+-- a command was accepted in a part of the office, which is `after` then: for the command the part is like the whole
+-- office, and in the whole one the command puts the record at this key
 pub record IsStepOf (whole : Machine) (command : Command) (key : Option Key) (after : Machine) : Type 0 where
   pub part : Machine
   pub reply : Reply
@@ -67,8 +67,8 @@ HasFittingCounts machine = (machine.handed ≤ count_limit) × (machine.accepted
 abbrev pub HasFittingTakeAt : Machine → Option Key → Type 0
 HasFittingTakeAt after key = IfSome (found_at after key) (λ entry. HasFittingTake entry.1)
 
--- why the numbers of a change are not written: memory ran out; or a count is above the limit, which is a fault of the office's table; or the take
--- number of the record at the key is, which is one of the table of records
+-- why the numbers of a change are not written: memory ran out; or a count is above the limit, which is a fault of the
+-- office's table; or the take number of the record at the key is, which is one of the table of records
 abbrev pub LacksFittingNumbers : Machine → Option Key → StoreFault → Type 0
 LacksFittingNumbers after key fault = IsUnfit Office (HasFittingCounts after) fault ⊎ IsUnfit SourceRecord (HasFittingTakeAt after key) fault
 
@@ -84,8 +84,8 @@ IsWriteOfRecord true found (write.PutsRecord entry) = found ≡ Some entry
 IsWriteOfRecord false found (write.ReplacesRecord entry) = found ≡ Some entry
 IsWriteOfRecord is_new found _ = ⊥
 
--- the write is that of what an accepted command changed but for the counts: it adds the architecture or the builder of the command, or writes the
--- record that the part of the office has at the key, which is new if the command entered it
+-- the write is that of what an accepted command changed but for the counts: it adds the architecture or the builder of
+-- the command, or writes the record that the part of the office has at the key, which is new if the command entered it
 abbrev pub IsWriteOf : Command → Option Key → Machine → OfficeWrite → Type 0
 IsWriteOf command key after (write.AddsArch arch) = command ≡ form.AddArch arch.0 arch.1.os arch.1.cpu
 IsWriteOf command key after (write.AddsBuilder pair) = command ≡ form.AddBuilder pair.0 pair.1
@@ -105,8 +105,9 @@ FailsToWriteOne Is old new fault = (write : OfficeWrite) × Is write × FailsToW
 abbrev pub FailsAtOnce : {S : Type 0} → Ghosts S → (OfficeWrite → Type 0) → (StoreFault → Type 0) → Held S → Held S → StoreFault → Type 0
 FailsAtOnce g Is Why old new fault = FailsToWriteOne Is (state g old) (state g new) fault ⊎ (Why fault × (old ≡ new))
 
--- one of these writes in a transaction, or none: if it succeeds, a database that stood for a state that allows it stands for the state after it; if it
--- fails, the write failed, or was not made for one of these reasons; and a crash leaves no more than before
+-- one of these writes in a transaction, or none: if it succeeds, a database that stood for a state that allows it
+-- stands for the state after it; if it fails, the write failed, or was not made for one of these reasons; and a crash
+-- leaves no more than before
 pub record Writes {S A : Type 0} (g : Ghosts S) (Is : OfficeWrite → Type 0) (Why : StoreFault → Type 0) (Allows : Machine → Type 0) (after : Machine → Machine) (old new : Held S) (result : Result A StoreFault) : Type 0 where
   pub ok : HasCleanDisk (state g new) → OnOk result ((machine : Machine) → StandsFor machine (state g old).now → Allows machine → ComesToStandFor g (after machine) old new)
   pub err : HasCleanDisk (state g new) → IsTrue old.in_transaction → IfErr result (FailsAtOnce g Is Why old new)
@@ -118,19 +119,22 @@ pub record Writes {S A : Type 0} (g : Ghosts S) (Is : OfficeWrite → Type 0) (W
 abbrev pub StandsForStep : {S : Type 0} → Ghosts S → Command → Option Key → Machine → Held S → Type 0
 StandsForStep g command key after held = (whole : Machine) × StandsFor whole (state g held).now × IsStepOf whole command key after
 
--- the change of an accepted command in this office failed with this fault: its first write did, or was not made, since a number does not fit; or the
--- write of the counts did, after the first had made the database stand for the office after the command with the counts before it
+-- the change of an accepted command in this office failed with this fault: its first write did, or was not made, since
+-- a number does not fit; or the write of the counts did, after the first had made the database stand for the office
+-- after the command with the counts before it
 abbrev pub FailsToChange : {S : Type 0} → Ghosts S → Command → Option Key → Machine → Machine → Held S → Held S → StoreFault → Type 0
 FailsToChange {S} g command key after whole old new fault =
     FailsAtOnce g (IsWriteOf command key after) (LacksFittingNumbers after key) old new fault
     ⊎ ((mid : Held S) × ComesToStandFor g (before_counts command whole) old mid × FailsToWrite (write.SetsCounts after.handed after.accepted) (state g mid) (state g new) fault)
 
--- after a failure the transaction from the state `before` is under way, with some of what it was to write, or it is taken back
+-- after a failure the transaction from the state `before` is under way, with some of what it was to write, or it is
+-- taken back
 abbrev pub IsLeftOrBack : {S : Type 0} → Ghosts S → Machine → Held S → Type 0
 IsLeftOrBack g before new = ((now : Machine) × IsUnderWay before now (state g new)) ⊎ IsBackAt before (state g new)
 
--- the change of an accepted command, written in a transaction: if it succeeds, a database that stood for the whole office stands for it after
--- the command; if it fails, one of its writes failed, and the transaction is under way, or taken back; and a crash leaves no more than before
+-- the change of an accepted command, written in a transaction: if it succeeds, a database that stood for the whole
+-- office stands for it after the command; if it fails, one of its writes failed, and the transaction is under way, or
+-- taken back; and a crash leaves no more than before
 pub record ChangesBy {S A : Type 0} (g : Ghosts S) (command : Command) (key : Option Key) (after : Machine) (old new : Held S) (result : Result A StoreFault) : Type 0 where
   pub ok : HasCleanDisk (state g new)
       → OnOk result ((whole : Machine) → StandsFor whole (state g old).now → IsStepOf whole command key after → Becomes (step whole command).1 (state g old) (state g new))

@@ -19,7 +19,8 @@ pub record IsOfficeOver {S : Type 0} (g : Ghosts S) (machine : Machine) (conn : 
   pub consistent : IsConsistent machine
   pub settled : IsSettled machine (state g conn)
 
--- a command was not carried out over an office in this state, for this fault: a look-up or a write failed with it, or the commit
+-- a command was not carried out over an office in this state, for this fault: a look-up or a write failed with it, or
+-- the commit
 abbrev pub FailsToCarryOut : {S : Type 0} → Ghosts S → Machine → StoreFault → Held S → Type 0
 FailsToCarryOut {S} g machine fault new =
     (command : Command) × (old : Held S) × IsOfficeOver g machine old × (failure : Failure) × IsLeft g machine command old new failure × (Store fault ≡ refusal_of failure)
@@ -28,8 +29,8 @@ FailsToCarryOut {S} g machine fault new =
 abbrev pub FailsToAnswer : {S : Type 0} → Ghosts S → Machine → StoreFault → Held S → Type 0
 FailsToAnswer {S} g machine fault new = (old : Held S) × IsOfficeOver g machine old × (told : StoreFault) × FailsToFind g old new told × (Store fault ≡ refusal_for told)
 
--- a merge of lists was not made over an office in this state, for this fault: a look-up or a call of the merge failed with it, or the commit; of the readers it is told what is known
--- of their bytes
+-- a merge of lists was not made over an office in this state, for this fault: a look-up or a call of the merge failed
+-- with it, or the commit; of the readers it is told what is known of their bytes
 abbrev pub FailsToMergeLists : {S : Type 0} → Ghosts S → Machine → StoreFault → Held S → Type 0
 FailsToMergeLists {S} g machine fault new =
     (sources : Option (List ℕ)) × (lists : List (ArchList (Option (List ℕ)))) × (old : Held S) × IsOfficeOver g machine old × (failure : Failure)

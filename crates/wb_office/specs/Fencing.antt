@@ -19,8 +19,9 @@ HoldsEnd machine commands =
     → hand_out (replay machine before) first ≡ Some given → hand_out (replay machine (before ++ first ∷ between)) second ≡ Some later
     → given.key ≡ later.key → Ends (step (replay machine before) first).1 between given
 
--- what an opening found is a consistent state, after commands that stand, from one of two states on: each of them was accepted, and so many are counted; the take numbers
--- of what they handed out rise from above those that were given before, and each hold ended before the next one on the same source package and architecture began
+-- what an opening found is a consistent state, after commands that stand, from one of two states on: each of them was
+-- accepted, and so many are counted; the take numbers of what they handed out rise from above those that were given
+-- before, and each hold ended before the next one on the same source package and architecture began
 pub record IsFenced (one other : Machine) (accepted : ℕ) (rows : List TableRow) : Type 0 where
   pub began : Machine
   pub which : (began ≡ one) ⊎ (began ≡ other)

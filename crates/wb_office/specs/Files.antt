@@ -29,7 +29,8 @@ use Rattle.wb_office.specs.Lives.{EndsLife, LeavesStanding, Outcome, fails_for_s
 use Rattle.wb_office.specs.Offices.{HasCleanFiles, HasLeftOne, IsAt, IsOpenOffice}
 use Rattle.wb_office.specs.Standing.{LeavesOne}
 
--- an opening of the files finds the office in the one state or in the other: a crash leaves no third; or no database was made in them, and the one is the empty office
+-- an opening of the files finds the office in the one state or in the other: a crash leaves no third; or no database
+-- was made in them, and the one is the empty office
 abbrev pub HoldOne : {D : Type 0} → Ghosts D → Files D → Machine → Machine → Type 0
 HoldOne g files one other = LeaveOffice g files one other ⊎ ((one ≡ empty_office) × AreNew g files)
 
@@ -37,7 +38,8 @@ HoldOne g files one other = LeaveOffice g files one other ⊎ ((one ≡ empty_of
 abbrev pub HasFailedWith : {D : Type 0} → Ghosts D → Machine → Machine → StoreFault → Type 0
 HasFailedWith {D} g = fails_for_some (HasLeftOne {g = g})
 
--- a life began at one of two states, and a crash of its files leaves the office as commands that stand after that life leave it
+-- a life began at one of two states, and a crash of its files leaves the office as commands that stand after that life
+-- leave it
 pub record IsLeftByLife {D : Type 0} (g : Ghosts D) (one other : Machine) (commands : List Command) (outcomes : List Outcome) (files : Files D) : Type 0 where
   pub began : Machine
   pub which : (began ≡ one) ⊎ (began ≡ other)
@@ -64,7 +66,8 @@ pub record AreOf {D : Type 0} (g : Ghosts D) (office : Office (FileStore D g)) (
 abbrev pub IsNotClosed : {D : Type 0} {g : Ghosts D} → Office (FileStore D g) → RefusedFiles D → Type 0
 IsNotClosed office refused = (office.is_closed ≡ false) × AreUnclosed office.store refused.fault refused.files
 
--- these files were closed: if a crash left one of two states of the office before, then all crashes leave the one now, or all leave the other
+-- these files were closed: if a crash left one of two states of the office before, then all crashes leave the one now,
+-- or all leave the other
 abbrev pub AreClosedFiles : {D : Type 0} (g : Ghosts D) → Office (FileStore D g) → Files D → Type 0
 AreClosedFiles g office files =
     AreClean g files.log files.db → (before after : Machine) → LeavesEither before after (file_state office.store) → AreSettledAt g files before ⊎ AreSettledAt g files after
@@ -97,8 +100,8 @@ pub record IsOpenOver {D : Type 0} (g : Ghosts D) (files : Files D) (office : Of
   pub clean : HasCleanFiles office → AreClean g files.log files.db
   pub stands : HasCleanFiles office → (one other : Machine) → HoldOne g files one other → IsEither (IsAt office) one other
 
--- a session on these files: the office that was opened over them, which was asked each command; and that office at the end, and what it was led through
--- from what the files held
+-- a session on these files: the office that was opened over them, which was asked each command; and that office at the
+-- end, and what it was led through from what the files held
 pub record IsSession {D : Type 0} (g : Ghosts D) (files : Files D) (commands : List Command) (outcomes : List Outcome) (left : Option (Files D)) : Type 0 where
   pub opened : Office (FileStore D g)
   pub office : Office (FileStore D g)
@@ -141,7 +144,8 @@ pub record LivesFound {D : Type 0} (g : Ghosts D) (opened : Office (FileStore D 
   pub count : (machine : Machine) → HasCleanFiles opened → IsAt opened machine → accepted ≡ machine.accepted
   pub lives : LivesOn g shown commands outcomes given
 
--- the rows of one of the tables of an office were not shown, for this fault; it was given up, and its files hold what it left
+-- the rows of one of the tables of an office were not shown, for this fault; it was given up, and its files hold what
+-- it left
 pub record IsGivenUp {D : Type 0} (g : Ghosts D) (office : Office (FileStore D g)) (fault : StoreFault) (left : Files D) : Type 0 where
   pub ended : Held (FileStore D g)
   pub clean : HasCleanDisk (file_state ended) → HasCleanFiles office
@@ -153,15 +157,16 @@ pub record IsGivenUp {D : Type 0} (g : Ghosts D) (office : Office (FileStore D g
 -- office that was opened over the files, which stands at a state that they hold, if they hold one of two; from that its
 -- tables are there (`HasOffice`). Of other files no clause says which tables a store has that was opened over them.
 
--- an office was opened over the files, and given up since its rows were not shown; the files that were handed back keep its state
+-- an office was opened over the files, and given up since its rows were not shown; the files that were handed back keep
+-- its state
 pub record IsUnshown {D : Type 0} (g : Ghosts D) (files : Files D) (fault : StoreFault) (left : Files D) : Type 0 where
   pub office : Office (FileStore D g)
   pub over : IsOpenOver g files office
   pub given_up : IsGivenUp g office fault left
   pub kept : AreClean g left.log left.db → (one other : Machine) → HoldOne g files one other → LeaveOffice g left one other
 
--- the fault of a life that is refused, and the files that are handed back: that of memory, before they were opened; that of their opening; or, while the disk is clean, that of
--- a table whose rows are not shown
+-- the fault of a life that is refused, and the files that are handed back: that of memory, before they were opened;
+-- that of their opening; or, while the disk is clean, that of a table whose rows are not shown
 abbrev pub IsFaultOfLife : {D : Type 0} → (g : Ghosts D) → Files D → StoreFault → Files D → Type 0
 IsFaultOfLife g files fault left = ((fault ≡ Memory) × (left ≡ files)) ⊎ (AreRefused g files fault left ⊎ IsUnshown g files fault left)
 

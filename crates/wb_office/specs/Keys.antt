@@ -18,7 +18,7 @@ key_at (Source arch source) first = Some (arch, source)
 key_at (Taken take_number) first = key_of first
 key_at (Head next) first = key_of first
 
--- the key of the record that a command other than a merge puts if it is accepted: it names the key, or the record is at the head of a queue, or
--- held under a take number
+-- the key of the record that a command other than a merge puts if it is accepted: it names the key, or the record is at
+-- the head of a queue, or held under a take number
 abbrev pub key_put : Machine → Command → Option Key
 key_put machine command = key_at (subject_of command) (first_named machine (subject_of command))

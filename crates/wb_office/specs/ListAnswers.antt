@@ -28,21 +28,24 @@ use Rattle.wb_office.specs.MergeCarried.{MergeEndsFor}
 use Rattle.wb_office.specs.MergeLists.{AreListsDone}
 use Rattle.wb_office.specs.Standing.{Knows}
 
--- what was committed before stands, unless the commit is in doubt: then that or the office after a merge of the lists that is accepted
+-- what was committed before stands, unless the commit is in doubt: then that or the office after a merge of the lists
+-- that is accepted
 abbrev pub ListsLeaveAs : {R : Type 0} → (R → Option (List ℕ)) → R → List (ArchList R) → Machine → State → CarryError → Type 0
 ListsLeaveAs remaining sources lists machine s (TakenBack fault) = IsBackAt machine s
 ListsLeaveAs remaining sources lists machine s (RollBackFailed fault) = IsBackAt machine s
 ListsLeaveAs remaining sources lists machine s (InDoubt fault) =
     (reply : Reply) × ((after : Machine) × (IsMergeOf remaining sources lists machine (Ok reply, after) × LeavesEither machine after s))
 
--- the lists were merged in a transaction, as feeds of the bytes of their readers: it began after look-ups that changed nothing, and ended with this failure
+-- the lists were merged in a transaction, as feeds of the bytes of their readers: it began after look-ups that changed
+-- nothing, and ended with this failure
 abbrev pub FailsToKeepLists : {S R : Type 0} → Ghosts S → (R → Option (List ℕ)) → R → List (ArchList R) → Machine → Held S → Held S → CarryError → Type 0
 FailsToKeepLists {S} g remaining sources lists machine old new failure =
     (at : Held S) × (feeds : List (PartList FeedState)) × (counts : Counts) × StaysAs g old at × AllZip (IsFeedOf remaining machine) lists feeds × AreCountsOf machine counts
     × MergeEndsFor g (AreListsDone MayStandAt IsFeedBreak (fresh (remaining sources)) feeds) counts machine at new failure
 
--- why a merge of lists is not made, and where the office is left: it is refused, or a look-up failed, and nothing is changed; or it was not committed, and
--- the office is as it was, or, if the commit is in doubt, as it was or as the merge makes it
+-- why a merge of lists is not made, and where the office is left: it is refused, or a look-up failed, and nothing is
+-- changed; or it was not committed, and the office is as it was, or, if the commit is in doubt, as it was or as the
+-- merge makes it
 abbrev pub AreListsLeft : {S R : Type 0} → Ghosts S → (R → Option (List ℕ)) → R → List (ArchList R) → Machine → Held S → Held S → Failure → Type 0
 AreListsLeft g remaining sources lists machine old new (Refused refusal) =
     (IsOfMachine refusal → IsMergeOf remaining sources lists machine (Err refusal, machine)) × IsSettled machine (state g new)
@@ -58,9 +61,10 @@ pub record AreListsMerged {S R : Type 0} (g : Ghosts S) (remaining : R → Optio
   pub settled : IsSettled after (state g new)
   pub knows : Knows after known
 
--- a merge of lists that readers give, carried out over the tables of a consistent office by what is known of them: the reply is one of a merge of what
--- they give, after which the tables are settled at the office after it, what is known then is so there, and the tables of others keep their rows; or a
--- failure leaves the office as above, and what is known is so as before
+-- a merge of lists that readers give, carried out over the tables of a consistent office by what is known of them: the
+-- reply is one of a merge of what they give, after which the tables are settled at the office after it, what is known
+-- then is so there, and the tables of others keep their rows; or a failure leaves the office as above, and what is
+-- known is so as before
 pub record RespondsLists {S R : Type 0} (g : Ghosts S) (remaining : R → Option (List ℕ)) (sources : R) (lists : List (ArchList R)) (was_known : Known) (old : Held S) (known : Known) (new : Held S)
     (result : Result Reply Failure) : Type 0 where
   pub was_clean : HasCleanDisk (state g new) → HasCleanDisk (state g old)

@@ -1,4 +1,5 @@
--- A life of an office over files: an opening, commands with their outcomes, and a stop; and which commands stand after it.
+-- A life of an office over files: an opening, commands with their outcomes, and a stop; and which commands stand after
+-- it.
 use Rattle.std.specs.Prelude.{◌≡◌, ◌≢◌, ◌⊎◌, ⊤, false, List, [], ◌∷◌, ◌++◌, Result, Ok, Err, if◌then◌else◌}
 use Rattle.wb_states.specs.declared.command.Command.{Command}
 use Rattle.wb_states.specs.declared.reply.Reply.{Reply}
@@ -35,10 +36,12 @@ AreClosed [] (outcome ∷ outcomes) = ⊥
 AreClosed (command ∷ commands) [] = ⊥
 AreClosed (command ∷ commands) (outcome ∷ outcomes) = (outcome ≡ Err Closed) × AreClosed commands outcomes
 
--- these commands stand after a life that began at this state, in their order, and each command has one outcome: each that was acknowledged stands, and no other,
--- except that the one at which the store failed may stand or not, if the step accepts it there. Each reply, and each refusal of the state, is that of the step after
--- the commands before it. Each fault that is told is one of those with which the store failed. Each command after such a fault is answered that the office is
--- closed; so may be all after a lack of memory, and no other. There may be no memory only for a command that no check without memory refuses
+-- these commands stand after a life that began at this state, in their order, and each command has one outcome: each
+-- that was acknowledged stands, and no other, except that the one at which the store failed may stand or not, if the
+-- step accepts it there. Each reply, and each refusal of the state, is that of the step after the commands before it.
+-- Each fault that is told is one of those with which the store failed. Each command after such a fault is answered that
+-- the office is closed; so may be all after a lack of memory, and no other. There may be no memory only for a command
+-- that no check without memory refuses
 abbrev pub LeavesStanding : (StoreFault → Type 0) → Machine → List Command → List Outcome → List Command → Type 0
 LeavesStanding Failed machine [] [] standing = standing ≡ []
 LeavesStanding Failed machine [] (outcome ∷ outcomes) standing = ⊥
@@ -74,8 +77,9 @@ fails_for_some {X} leaves before after fault = (office : X) × leaves office bef
 abbrev pub never_fails : StoreFault → Type 0
 never_fails fault = ⊥
 
--- an office that stood at this state stands at the one after the commands that a life left standing, and no fault was told; or it is closed, a crash leaves the
--- one or the other of two such states, and each fault that was told is one with which the store of this office failed
+-- an office that stood at this state stands at the one after the commands that a life left standing, and no fault was
+-- told; or it is closed, a crash leaves the one or the other of two such states, and each fault that was told is one
+-- with which the store of this office failed
 abbrev pub EndsLife : {X : Type 0} → (X → Machine → Type 0) → (X → Machine → Machine → StoreFault → Type 0) → Machine → List Command → List Outcome → X → Type 0
 EndsLife stands_at leaves machine commands outcomes new =
     ((standing : List Command) × LeavesStanding never_fails machine commands outcomes standing × stands_at new (replay machine standing))

@@ -35,7 +35,8 @@ abbrev pub FailsAsMerge : {S : Type 0} → Ghosts S → (Machine → List PartRe
 FailsAsMerge {S} g Done counts machine old fault =
     ((at : Held S) × FailsToMerge g counts (begun old) at fault) ⊎ FailsAtMergeCommit g Done counts machine old fault
 
--- a merge was refused, and its transaction could not be taken back: ROLLBACK failed with this fault, or the connection cannot be used on after it
+-- a merge was refused, and its transaction could not be taken back: ROLLBACK failed with this fault, or the connection
+-- cannot be used on after it
 abbrev pub IsRefusedAndLeft : {S : Type 0} → Ghosts S → (Machine → List PartReply → Records → Type 0) → Counts → Machine → Held S → StoreFault → Type 0
 IsRefusedAndLeft {S} g Done counts machine new fault =
     (refusal : Refusal) × (IsRefusedMerge Done counts machine refusal
@@ -56,7 +57,8 @@ MergeLeavesAs Done counts machine s (RollBackFailed fault) = IsBackAt machine s
 MergeLeavesAs Done counts machine s (InDoubt fault) =
     (replies : List PartReply) × ((last : Records) × (IsAcceptedMerge Done counts machine replies last × LeavesEither machine (merged_office counts last machine) s))
 
--- why a merge is not carried out, and where the office is left: it is refused, and nothing is changed; or its transaction was not committed
+-- why a merge is not carried out, and where the office is left: it is refused, and nothing is changed; or its
+-- transaction was not committed
 abbrev pub IsNotMerged : {S : Type 0} → Ghosts S → (Machine → List PartReply → Records → Type 0) → Counts → Machine → Held S → Held S → Failure → Type 0
 IsNotMerged g Done counts machine old new (Refused refusal) = IsRefusedMerge Done counts machine refusal × IsSettled machine (state g new)
 IsNotMerged g Done counts machine old new (Unread fault) = ⊥
@@ -69,9 +71,10 @@ pub record IsCarriedMerge {S : Type 0} (g : Ghosts S) (Done : Machine → List P
   pub accepted : IsAcceptedMerge Done counts machine replies last
   pub settled : IsSettled (merged_office counts last machine) (state g new)
 
--- a merge of lists of which an office may read the one and of which the other comes, in a transaction of its own, over a connection that is settled at
--- the office: if it succeeds, the connection is settled at the office after it, and the tables of others keep their rows; if it fails, the office is as
--- before, but if the commit is in doubt a crash leaves the one or the other
+-- a merge of lists of which an office may read the one and of which the other comes, in a transaction of its own, over
+-- a connection that is settled at the office: if it succeeds, the connection is settled at the office after it, and the
+-- tables of others keep their rows; if it fails, the office is as before, but if the commit is in doubt a crash leaves
+-- the one or the other
 pub record CarriesLists {S X : Type 0} (g : Ghosts S) (Ready : Machine → Type 0) (Done : Machine → List PartReply → Records → Type 0) (counts : Counts) (old new : Held S)
     (result : Result (Vec PartReply X) Failure) : Type 0 where
   pub was_clean : HasCleanDisk (state g new) → HasCleanDisk (state g old)
@@ -87,8 +90,8 @@ pub record CarriesLists {S X : Type 0} (g : Ghosts S) (Ready : Machine → Type 
 
 -- ---- a merge that stopped
 
--- the failure of a merge that stopped, by the answer to the call that was to take its transaction back: a refused merge is refused only if it was and the
--- connection can be used on
+-- the failure of a merge that stopped, by the answer to the call that was to take its transaction back: a refused merge
+-- is refused only if it was and the connection can be used on
 abbrev pub EndsStopped : {S : Type 0} → Ghosts S → Stop → Result (Unit {0}) StoreFault → Held S → Held S → Failure → Type 0
 EndsStopped g (stop.Failed fault) ended old new failure = (failure ≡ Uncommitted (failure_of fault ended)) × (new ≡ old)
 EndsStopped g (stop.Refused refusal) (Ok x) old new failure =

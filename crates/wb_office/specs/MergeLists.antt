@@ -37,7 +37,8 @@ use Rattle.wb_office.specs.Turns.{IsNoOffice}
 
 -- ---- what is read
 
--- lists that are to be read into an office: none was read yet, and each part has the words that its architecture has there, if it was added
+-- lists that are to be read into an office: none was read yet, and each part has the words that its architecture has
+-- there, if it was added
 pub record AreListsToRead {R : Type 0} (MayStand : R → ReaderState → Type 0) (sources : R) (parts : List (PartList R)) (machine : Machine) : Type 0 where
   pub unread : IsUnread MayStand sources
   pub are_parts : AllByRecursion (IsPartUnread MayStand machine) parts
@@ -89,7 +90,8 @@ pub record IsMergedIn {S : Type 0} (g : Ghosts S) (Done : Machine → List PartR
   pub runs : RunsTo g old new
   pub stands : StandsFor (merged_office counts last machine) (state g new).now
 
--- why a merge is not made in a transaction: memory ran out; a call of it failed, or the counts, which are above the limit or whose write failed
+-- why a merge is not made in a transaction: memory ran out; a call of it failed, or the counts, which are above the
+-- limit or whose write failed
 abbrev pub FailsToMerge : {S : Type 0} → Ghosts S → Counts → Held S → Held S → StoreFault → Type 0
 FailsToMerge {S} g counts old new fault =
     (fault ≡ Memory)
@@ -97,7 +99,8 @@ FailsToMerge {S} g counts old new fault =
     ⊎ (IsUnfit Office (counts.handed ≤ count_limit) fault
     ⊎ ((mid : Held S) × (RunsTo g old mid × FailsToWrite (write.SetsCounts counts.handed (counts.accepted + 1)) (state g mid) (state g new) fault))))
 
--- the transaction from the state `before` is under way, with some of what it was to write and rows of the lists, or it is taken back
+-- the transaction from the state `before` is under way, with some of what it was to write and rows of the lists, or it
+-- is taken back
 abbrev pub IsLeftWithLists : {S : Type 0} → Ghosts S → Machine → Held S → Type 0
 IsLeftWithLists g before new = ((now : Machine) × ((kept : Scratch) × IsUnderWayWith before now kept (state g new))) ⊎ IsBackAt before (state g new)
 
@@ -111,9 +114,9 @@ abbrev pub IfFailed : (StoreFault → Type 0) → Stop → Type 0
 IfFailed P (Refused refusal) = ⊤
 IfFailed P (Failed fault) = P fault
 
--- a merge of lists of which an office may read the one and of which the other comes, in a transaction: if it succeeds, the database stands for the
--- office after it; if it stops, it is refused, or a call of it failed, and the transaction is under way or taken back; and a crash leaves no more than
--- before
+-- a merge of lists of which an office may read the one and of which the other comes, in a transaction: if it succeeds,
+-- the database stands for the office after it; if it stops, it is refused, or a call of it failed, and the transaction
+-- is under way or taken back; and a crash leaves no more than before
 pub record MergesLists {S X : Type 0} (g : Ghosts S) (Ready : Machine → Type 0) (Done : Machine → List PartReply → Records → Type 0) (counts : Counts) (old new : Held S)
     (result : Result (Vec PartReply X) Stop) : Type 0 where
   pub ok : HasCleanDisk (state g new) → (machine : Machine) → StandsFor machine (state g old).now → Ready machine

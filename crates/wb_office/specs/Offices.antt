@@ -22,6 +22,7 @@ IsAt office machine = StandsAt machine office.is_closed office.known (file_state
 abbrev pub IsOpenOffice : {D : Type 0} {g : Ghosts D} → Office (FileStore D g) → Type 0
 IsOpenOffice office = office.is_closed ≡ false
 
--- the office is closed, since its store failed with this fault while it stood at the state before, and a crash leaves the one state or the other
+-- the office is closed, since its store failed with this fault while it stood at the state before, and a crash leaves
+-- the one state or the other
 abbrev pub HasLeftOne : {D : Type 0} {g : Ghosts D} → Office (FileStore D g) → Machine → Machine → StoreFault → Type 0
 HasLeftOne office before after fault = LeavesOne before after office.is_closed (file_state office.store) × HasFailed over_files before fault office.store

@@ -18,6 +18,7 @@ PutsOne entries _ = ⊥
 abbrev pub HaveFittingTakes : List Entry → Type 0
 HaveFittingTakes entries = (entry : Entry) → IsIn entry entries → HasFittingTake entry.1
 
--- the records are not written, since a take number of them is above the limit, for which no row of their table is blamed
+-- the records are not written, since a take number of them is above the limit, for which no row of their table is
+-- blamed
 abbrev pub HasTakeOverLimit : List Entry → StoreFault → Type 0
 HasTakeOverLimit entries fault = (fault ≡ unfit SourceRecord) × ¬ HaveFittingTakes entries

@@ -1,4 +1,5 @@
--- Records and counts that are written in one transaction, and how it ends; and a report, which changes so many records as its lines name.
+-- Records and counts that are written in one transaction, and how it ends; and a report, which changes so many records
+-- as its lines name.
 use Rattle.std.specs.Prelude.{◌≡◌, ◌⊎◌, ℕ, ◌≤◌, ◌+◌, List, Option, None, option_and_then, Result, IsTrue, IfErr, OnOk, OnErr}
 use Rattle.std.specs.FinMap as map
 use Rattle.std.specs.Option.{option_map}
@@ -59,8 +60,9 @@ HaveFit counts = (counts.handed ≤ count_limit) × (counts.accepted ≤ count_l
 abbrev pub CannotWriteRows : List Entry → Counts → StoreFault → Type 0
 CannotWriteRows rows counts fault = IsUnfit Office (HaveFit counts) fault ⊎ HasTakeOverLimit rows fault
 
--- these records and counts, written in a transaction: if it succeeds, a database that stood for an office stands for it with them; if it fails, one of
--- its writes failed or cannot be made, and the transaction is under way or taken back; and a crash leaves no more than before
+-- these records and counts, written in a transaction: if it succeeds, a database that stood for an office stands for it
+-- with them; if it fails, one of its writes failed or cannot be made, and the transaction is under way or taken back;
+-- and a crash leaves no more than before
 pub record WritesRows {S A : Type 0} (g : Ghosts S) (rows : List Entry) (counts : Counts) (old new : Held S) (result : Result A StoreFault) : Type 0 where
   pub ok : HasCleanDisk (state g new)
       → OnOk result ((whole : Machine) → StandsFor whole (state g old).now → Becomes (rows_written rows counts whole) (state g old) (state g new))
@@ -88,9 +90,10 @@ abbrev pub HoldsRows : {S : Type 0} → Ghosts S → List Entry → Counts → H
 HoldsRows g rows counts old db =
     (whole : Machine) → StandsFor whole (state g old).now → StandsFor (rows_written rows counts whole) (record { schema = old.schema; trees = db })
 
--- these records and counts, in a transaction of their own, over a connection that is settled at an office: if it succeeds, the connection is settled at
--- the office with them, and the tables of others keep their rows; if it fails, the office is as before, but if the commit is in doubt a crash leaves
--- the one or the other; and a crash after it leaves no third
+-- these records and counts, in a transaction of their own, over a connection that is settled at an office: if it
+-- succeeds, the connection is settled at the office with them, and the tables of others keep their rows; if it fails,
+-- the office is as before, but if the commit is in doubt a crash leaves the one or the other; and a crash after it
+-- leaves no third
 pub record CarriesRows {S A : Type 0} (g : Ghosts S) (rows : List Entry) (counts : Counts) (old new : Held S) (result : Result A CarryError) : Type 0 where
   pub ok : HasCleanDisk (state g new) → (whole : Machine) → IsSettled whole (state g old) → OnOk result (IsSettled (rows_written rows counts whole) (state g new))
   pub err : HasCleanDisk (state g new) → (whole : Machine) → IsSettled whole (state g old) → IfErr result (LeavesAs whole (rows_written rows counts whole) (state g new))

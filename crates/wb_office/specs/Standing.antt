@@ -7,13 +7,14 @@ use Rattle.wb_store.specs.Settled.{IsBackAt, LeavesEither}
 use Rattle.wb_office.specs.declared.known.Known.{Known}
 use Rattle.wb_store.specs.Opening.{AreCountsOf}
 
--- what an office knows of its tables is so at this state: the counts, and the architectures, unless they have to be read
+-- what an office knows of its tables is so at this state: the counts, and the architectures, unless they have to be
+-- read
 pub record Knows (machine : Machine) (known : Known) : Type 0 where
   pub counts : AreCountsOf machine known.counts
   pub archs : IfSome known.archs (λ archs. archs.items ≡ map.entries machine.archs)
 
--- an office that is open has its state in tables outside a transaction; a crash of an open or a closed one leaves only that state; and what it
--- knows of its tables is so at this state
+-- an office that is open has its state in tables outside a transaction; a crash of an open or a closed one leaves only
+-- that state; and what it knows of its tables is so at this state
 pub record StandsAt (machine : Machine) (is_closed : Bool) (known : Known) (s : State) : Type 0 where
   pub consistent : IsConsistent machine
   pub knows : Knows machine known

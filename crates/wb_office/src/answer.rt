@@ -1,5 +1,6 @@
-//! What the office answers to one command over its tables: what the command names is read, the command is carried out
-//! on that part of the office in memory, and what it changed is written in one transaction.
+//! What the office answers to one command over its tables: what the command names is read, the
+//! command is carried out on that part of the office in memory, and what it changed is written in
+//! one transaction.
 ghost use Rattle.std.specs.Prelude.{◌≡◌, None};
 ghost use Rattle.wb_step.specs.Arguments.{arguments_of};
 ghost use Rattle.wb_step.specs.Checks.{text_refusal};
@@ -40,8 +41,8 @@ pub(crate) struct Answered {
     pub(crate) counts: Counts,
 }
 
-/// Carries out a command whose texts are not refused, and of which these lines were read if it is a report, by what is
-/// known of the tables, and takes over what is known then.
+/// Carries out a command whose texts are not refused, and of which these lines were read if it is a
+/// report, by what is known of the tables, and takes over what is known then.
 pub(crate) fn answer<S: Alter + Drop>(
     alloc: Global,
     store: &mut Store<S>,
@@ -67,8 +68,8 @@ pub(crate) fn answer<S: Alter + Drop>(
     }
 }
 
-/// Carries out a command whose texts are not refused, and of which these lines were read if it is a report, in an office
-/// that has these counts and architectures.
+/// Carries out a command whose texts are not refused, and of which these lines were read if it is a
+/// report, in an office that has these counts and architectures.
 fn answer_of<S: Alter + Drop>(
     alloc: Global,
     store: &mut Store<S>,

@@ -1,4 +1,5 @@
-//! The transaction of an accepted command, over a store in which none is under way: begun, written, and ended.
+//! The transaction of an accepted command, over a store in which none is under way: begun, written,
+//! and ended.
 
 ghost use Rattle.std.specs.Prelude.{◌≡◌, false};
 ghost use Rattle.wb_office.specs.Carried.{CarriesOut, failure_of};
@@ -13,7 +14,8 @@ use wb_store::Store;
 /// Why the transaction of a command was not committed (this project's own).
 #[derive(Debug, Drop)]
 pub(crate) enum CarryError {
-    /// It failed with this fault, and was taken back. The store can be used on, unless a fault shut it.
+    /// It failed with this fault, and was taken back. The store can be used on, unless a fault shut
+    /// it.
     TakenBack(StoreFault),
     /// It failed with this fault, and taking it back failed too. Nothing of it was committed.
     RollBackFailed(StoreFault),
@@ -21,10 +23,10 @@ pub(crate) enum CarryError {
     InDoubt(StoreFault),
 }
 
-/// Writes the change of an accepted command in a transaction of its own, and commits it. `after` is the part of the
-/// office in which the command was carried out, and `key` is that of the record that it put. The errors are those of
-/// [`CarryError`], with the fault of `write_change` or of the commit; after each but `InDoubt` the office is as it was
-/// (this project's own).
+/// Writes the change of an accepted command in a transaction of its own, and commits it. `after` is
+/// the part of the office in which the command was carried out, and `key` is that of the record
+/// that it put. The errors are those of [`CarryError`], with the fault of `write_change` or of the
+/// commit; after each but `InDoubt` the office is as it was (this project's own).
 pub(crate) fn carry<S: Alter + Drop>(
     store: &mut Store<S>,
     command: &Command,
@@ -49,7 +51,8 @@ pub(crate) fn carry<S: Alter + Drop>(
     }
 }
 
-/// The failure of a transaction that failed with this fault, after the call that was to take it back.
+/// The failure of a transaction that failed with this fault, after the call that was to take it
+/// back.
 pub(crate) fn failure(fault: StoreFault, ended: Result<(), StoreFault>) -> CarryError
     ensures value { result ≡ failure_of fault ended }
 {

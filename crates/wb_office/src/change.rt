@@ -1,5 +1,5 @@
-//! What an accepted command changed in a part of the office, written to the tables of the whole office: one record, one
-//! architecture or one builder, and the two counts.
+//! What an accepted command changed in a part of the office, written to the tables of the whole
+//! office: one record, one architecture or one builder, and the two counts.
 
 ghost use Rattle.std.specs.Prelude.{◌≡◌, false, None, Some, IfErr, IfOk, OnOk};
 ghost use Rattle.std.specs.FinMap as map;
@@ -18,11 +18,12 @@ use wb_states::{COUNT_LIMIT, Command, Counts, OsCpu, Record, StoreFault, Table, 
 use wb_step::OfficePart;
 use wb_store::{Writing, has_fitting_take, unfit};
 
-/// Writes the change of an accepted command, and the counts after it, in a transaction that is under way. `after` is
-/// the part of the office in which the command was carried out, and `key` is that of the record that it put. The fault
-/// is that of the statement that failed; or, before any, `Memory`, or `Damaged` with row 0 of the office or of the
-/// records if a count or a take number of the part is above [`COUNT_LIMIT`]. The caller then takes the transaction back
-/// (this project's own).
+/// Writes the change of an accepted command, and the counts after it, in a transaction that is
+/// under way. `after` is the part of the office in which the command was carried out, and `key` is
+/// that of the record that it put. The fault is that of the statement that failed; or, before any,
+/// `Memory`, or `Damaged` with row 0 of the office or of the records if a count or a take number of
+/// the part is above [`COUNT_LIMIT`]. The caller then takes the transaction back (this project's
+/// own).
 pub(crate) fn write_change<S: Alter + Drop>(
     writing: &mut Writing<'_, S>,
     command: &Command,
@@ -100,8 +101,8 @@ fn write_arch<S: Alter + Drop>(
     writing.add_arch(&command.name, &words)
 }
 
-/// Writes the record that the part of the office has at the key, if there is one: as a new one, or in place of the one
-/// that is there, which is quicker.
+/// Writes the record that the part of the office has at the key, if there is one: as a new one, or
+/// in place of the one that is there, which is quicker.
 fn write_record<S: Alter + Drop>(
     writing: &mut Writing<'_, S>,
     arch: &Text,

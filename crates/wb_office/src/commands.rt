@@ -9,8 +9,9 @@ use wb_states::{Command, Refusal, Reply};
 /// What a command was answered.
 pub type Outcome = Result<Reply, Refusal>;
 
-/// Asks the office each of the commands, one after another, and adds each answer to the outcomes, for which there is room.
-/// Once the office is closed, it answers each command left that it is closed.
+/// Asks the office each of the commands, one after another, and adds each answer to the outcomes,
+/// for which there is room. Once the office is closed, it answers each command left that it is
+/// closed.
 pub(crate) fn carry_out_all<S: Alter + Drop>(
     office: &mut Office<S>,
     commands: &[Command],

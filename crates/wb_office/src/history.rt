@@ -22,9 +22,11 @@ use wb_store::RefusedFiles;
 pub enum Found {
     /// The office was opened.
     Opened {
-        /// How many commands were accepted, those of earlier lives and those before the first among them.
+        /// How many commands were accepted, those of earlier lives and those before the first among
+        /// them.
         accepted: u64,
-        /// Each row of the office's tables, once, as [`Store::rows`](wb_store::Store::rows) has them.
+        /// Each row of the office's tables, once, as [`Store::rows`](wb_store::Store::rows) has
+        /// them.
         rows: Items<TableRow>,
         /// What each command of the life was answered.
         outcomes: Items<Outcome>,
@@ -36,19 +38,21 @@ pub enum Found {
 /// What lives of an office find and leave.
 #[derive(Drop)]
 pub struct LivesEnd<D: Disk + Drop> {
-    /// What was found, life by life, up to the first whose opening was refused or whose office was not closed.
+    /// What was found, life by life, up to the first whose opening was refused or whose office was
+    /// not closed.
     pub found: Items<Found>,
-    /// The files after the last power cut, those that were handed in if there is no life. They are always there, also if an
-    /// opening was refused or an office was not closed.
+    /// The files after the last power cut, those that were handed in if there is no life. They are
+    /// always there, also if an opening was refused or an office was not closed.
     pub files: Option<Files<D>>,
 }
 
 /// Has an office live once for each list of commands: it is opened, carries out the commands as in
-/// [`session`](crate::session), and is closed, and then the power is cut. So the next life begins with files that a crash
-/// may leave, and there have to be as many cuts [left](Power::left) as there are lives. The lives end with the first whose
-/// opening is refused or whose office is not closed; what was found is told all the same, the power is cut, and the files are
-/// handed back. The room for what is found is taken first: the error is `Memory` alone, and then nothing was opened and no power
-/// was cut (this project's own).
+/// [`session`](crate::session), and is closed, and then the power is cut. So the next life begins
+/// with files that a crash may leave, and there have to be as many cuts [left](Power::left) as
+/// there are lives. The lives end with the first whose opening is refused or whose office is not
+/// closed; what was found is told all the same, the power is cut, and the files are handed back.
+/// The room for what is found is taken first: the error is `Memory` alone, and then nothing was
+/// opened and no power was cut (this project's own).
 pub fn lives<D: Disk + Drop, P: Power<D>>(
     alloc: Global,
     files: Files<D>,
@@ -73,7 +77,8 @@ pub fn lives<D: Disk + Drop, P: Power<D>>(
     })
 }
 
-/// Has an office live once for each list of commands, and adds what each life finds, for which there is room.
+/// Has an office live once for each list of commands, and adds what each life finds, for which
+/// there is room.
 fn live_all<D: Disk + Drop, P: Power<D>>(
     alloc: Global,
     files: Files<D>,
@@ -102,7 +107,8 @@ fn live_all<D: Disk + Drop, P: Power<D>>(
     current
 }
 
-/// Has an office live once, and cuts the power after it. Lives do not go on if its opening was refused or it was not closed.
+/// Has an office live once, and cuts the power after it. Lives do not go on if its opening was
+/// refused or it was not closed.
 fn live_once<D: Disk + Drop, P: Power<D>>(
     alloc: Global,
     files: Files<D>,

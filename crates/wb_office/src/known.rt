@@ -41,8 +41,8 @@ pub(crate) fn copied(
     Ok(copy)
 }
 
-/// All architectures of the office, by name. They are read if they are not known, and are known then. The faults are
-/// those of the look-up, and `Memory`.
+/// All architectures of the office, by name. They are read if they are not known, and are known
+/// then. The faults are those of the look-up, and `Memory`.
 pub(crate) fn find_archs<S: Alter + Drop>(
     alloc: Global,
     store: &mut Store<S>,

@@ -1,6 +1,6 @@
-//! The office over tables: it is opened and closed, and each command is one transaction, which stands whole or not at
-//! all after any stop; and its lives, each an opening, commands and a stop, after which the files are what a crash may
-//! leave.
+//! The office over tables: it is opened and closed, and each command is one transaction, which
+//! stands whole or not at all after any stop; and its lives, each an opening, commands and a stop,
+//! after which the files are what a crash may leave.
 #![tactic(auto)]
 
 mod answer;

@@ -47,10 +47,11 @@ struct Ended<D: Disk + Drop> {
 // `sqlite` refuses to close a connection after a fault of the disk, so an office that a fault
 // closed is given up: its files are those of the last commit or, in doubt, of one of two. To give
 // up each office would leave the log to the next opening.
-/// Opens the office that the files hold, has it carry out the commands, one after another, and closes it; one that a fault
-/// closed is given up as it is. Each command has an answer: after one at which the store failed each is `Closed`. The room
-/// for the answers is taken before the files are opened. The faults are those of [`Office::open`], and `Memory` if there is
-/// no room for the answers; nothing is then carried out (this project's own).
+/// Opens the office that the files hold, has it carry out the commands, one after another, and
+/// closes it; one that a fault closed is given up as it is. Each command has an answer: after one
+/// at which the store failed each is `Closed`. The room for the answers is taken before the files
+/// are opened. The faults are those of [`Office::open`], and `Memory` if there is no room for the
+/// answers; nothing is then carried out (this project's own).
 pub fn session<D: Disk + Drop>(
     alloc: Global,
     files: Files<D>,
@@ -74,8 +75,8 @@ pub fn session<D: Disk + Drop>(
     })
 }
 
-/// The same, with what the opening finds: how many commands were accepted, and each row of the office's tables. The faults
-/// are also those of the rows. After each the files are handed back.
+/// The same, with what the opening finds: how many commands were accepted, and each row of the
+/// office's tables. The faults are also those of the rows. After each the files are handed back.
 pub(crate) fn open_and_live<D: Disk + Drop>(
     alloc: Global,
     files: Files<D>,
@@ -99,8 +100,8 @@ pub(crate) fn open_and_live<D: Disk + Drop>(
     }
 }
 
-/// Finds what an office that was opened shows, has it carry out the commands, and closes it; if its rows are not shown, it is
-/// given up. There is room for the answers.
+/// Finds what an office that was opened shows, has it carry out the commands, and closes it; if its
+/// rows are not shown, it is given up. There is room for the answers.
 fn live_on<D: Disk + Drop>(
     office: Office<FileStore<D>>,
     commands: &[Command],

@@ -1,5 +1,6 @@
-//! What the office answers to a merge of lists that readers give, over its tables: the lists are read paragraph by paragraph into
-//! the tables, and the records that they change are written, in one transaction.
+//! What the office answers to a merge of lists that readers give, over its tables: the lists are
+//! read paragraph by paragraph into the tables, and the records that they change are written, in
+//! one transaction.
 ghost use Rattle.std.specs.Prelude.{◌≡◌, None};
 ghost use Rattle.wb_archive.specs.Readers.{archs_refusal};
 ghost use Rattle.wb_office.specs.ListAnswers.{RespondsLists};
@@ -16,8 +17,8 @@ use wb_archive::ArchList;
 use wb_states::{Refusal, Reply, Table};
 use wb_store::{Store, unfit};
 
-/// Merges lists that readers give, by what is known of the tables, and takes over what is known then. The names of their
-/// architectures are not refused.
+/// Merges lists that readers give, by what is known of the tables, and takes over what is known
+/// then. The names of their architectures are not refused.
 pub(crate) fn answer_lists<S: Alter + Drop, R: BufRead + Drop>(
     alloc: Global,
     store: &mut Store<S>,

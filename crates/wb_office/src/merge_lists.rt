@@ -63,7 +63,8 @@ fn unless_refused(replies: Vec<PartReply>) -> Result<Vec<PartReply>, Refusal>
     }
 }
 
-/// The counts after a merge, which stops if no more command can be counted, or if a count does not fit.
+/// The counts after a merge, which stops if no more command can be counted, or if a count does not
+/// fit.
 fn counted(counts: Counts) -> Result<Counts, Stop>
     ensures value { IfOk result (λ after. after ≡ counted counts) }
     ensures room { OnOk result (nat_le count_limit counts.accepted ≡ false) }
@@ -83,8 +84,8 @@ fn counted(counts: Counts) -> Result<Counts, Stop>
     })
 }
 
-/// Merges lists in a transaction that is under way, and counts the merge. The caller takes the transaction back if the merge
-/// stops.
+/// Merges lists in a transaction that is under way, and counts the merge. The caller takes the
+/// transaction back if the merge stops.
 pub(crate) fn merge_in<S: Alter + Drop, R: ReadParagraphs>(
     alloc: Global,
     writing: &mut Writing<'_, S>,

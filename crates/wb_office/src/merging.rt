@@ -1,5 +1,5 @@
-//! What the office answers to a merge over its tables: the lists are read paragraph by paragraph into the tables, and the records
-//! that they change are written, in one transaction.
+//! What the office answers to a merge over its tables: the lists are read paragraph by paragraph
+//! into the tables, and the records that they change are written, in one transaction.
 ghost use Rattle.std.specs.Prelude.{◌≡◌, None, false, nat_le};
 ghost use Rattle.sqlite.specs.Held.{state};
 ghost use Rattle.sqlite.specs.State.{Survives};
@@ -25,8 +25,9 @@ use wb_store::{Store, unfit};
 
 // A refusal says that the office stands as before and is open, so the store is asked first. The
 // refusal all the same would leave the next command to find the store shut.
-/// How a merge that stopped failed, after the call that was to take its transaction back. A refused merge leaves the office as it
-/// was if its transaction was taken back and the store can still be used; otherwise it is a failure of the store.
+/// How a merge that stopped failed, after the call that was to take its transaction back. A refused
+/// merge leaves the office as it was if its transaction was taken back and the store can still be
+/// used; otherwise it is a failure of the store.
 fn stopped<S: Alter + Drop>(
     store: &mut Store<S>,
     stop: Stop,
@@ -45,8 +46,8 @@ fn stopped<S: Alter + Drop>(
     }
 }
 
-/// Merges lists in a transaction of its own, and commits it. If it fails, the office is as it was, unless the commit is in doubt
-/// (this project's own).
+/// Merges lists in a transaction of its own, and commits it. If it fails, the office is as it was,
+/// unless the commit is in doubt (this project's own).
 pub(crate) fn carry_lists<S: Alter + Drop, R: ReadParagraphs>(
     alloc: Global,
     store: &mut Store<S>,

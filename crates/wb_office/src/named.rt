@@ -45,10 +45,10 @@ fn named_of(alloc: Global, names: &Subject<'_>, found: FoundPart) -> Result<Name
     })
 }
 
-/// What the command names of an office that has these counts and architectures: they, and what is read from the tables;
-/// for a merge that is nothing. The faults are those of the look-ups, and `Memory` if memory runs out. The database
-/// stays as it is; only a failed query may take a transaction back.
-/// Source: this project's own.
+/// What the command names of an office that has these counts and architectures: they, and what is
+/// read from the tables; for a merge that is nothing. The faults are those of the look-ups, and
+/// `Memory` if memory runs out. The database stays as it is; only a failed query may take a
+/// transaction back. Source: this project's own.
 pub(crate) fn named_part<S: Alter + Drop>(
     alloc: Global,
     store: &mut Store<S>,

@@ -1,5 +1,5 @@
 //! The office over tables: each command is one transaction.
-ghost use Rattle.std.specs.Prelude.{◌≡◌, ◌⊎◌, false, true, None, Err, map, IfOk, IfErr, IsErrAnd, IsTrue};
+ghost use Rattle.std.specs.Prelude.{◌≡◌, ◌⊎◌, false, true, None, Err, Ok, map, IfOk, IfErr, IsErrAnd, IsTrue};
 ghost use Rattle.sqlite.specs.Change.{KeepsRows};
 ghost use Rattle.sqlite.specs.Files.{file_state};
 ghost use Rattle.sqlite.specs.Held.{state};
@@ -25,7 +25,9 @@ ghost use Rattle.wb_store.specs.TableRows.{FailsToShowOne, table_rows};
 ghost use Rattle.wb_store.specs.Upgrading.{HasFirst};
 ghost use Rattle.wb_rows.specs.Shown.{row_of};
 ghost use Rattle.wb_office.specs.declared.answer.Failure.TheVariants.{Uncommitted};
+ghost use Rattle.wb_states.specs.Holds.{holder_of};
 ghost use Rattle.wb_states.specs.Queries.{answer_of, has_malformed_name};
+ghost use Rattle.wb_states.specs.Refusals.{IsOfMachine, is_of_store};
 ghost use Rattle.wb_office.specs.Applies.{Applies, CannotGoOn, Ends, EndsWith, refusal_for};
 ghost use Rattle.wb_office.specs.AppliesLists.{AppliesLists};
 ghost use Rattle.wb_office.specs.Asks.{Asks};
@@ -36,8 +38,8 @@ use crate::answer::{Failure, answer};
 use crate::carry::CarryError;
 use crate::known::Known;
 use crate::lists::answer_lists;
-use crate::query::find_answer;
-use deb_text::Items;
+use crate::query::{find_answer, find_holder};
+use deb_text::{Items, Text};
 use sqlite::{Alter, Connection, FileStore, Files, Options};
 use sqlite_disk::Disk;
 use std::alloc::Global;
@@ -58,18 +60,21 @@ pub struct Office<S: Alter + Drop> {
 }
 
 impl<S: Alter + Drop> Office<S> {
-    /// Opens the office whose tables the connection has, which is in no transaction; a database that lacks them becomes
-    /// that of an empty office. Tables of others may stand beside the office's, as
-    /// [`has_office_tables`](wb_sql::has_office_tables) and [`lacks_office`](wb_sql::lacks_office) say. Each row of the
-    /// office's tables is tested. An office of the first schema, whose tables are those of format 1, is then brought over
-    /// into the second in one transaction: each record has build priority 0, and the table of its records stays without a
-    /// row. The faults are `NewerSchema` if the table `office` has one row, with a format that is newer than this
-    /// program's, whatever its other tables are; `NotOffice` if the database has something of the office's names, but not
-    /// its tables, or a table that refers to them, and is then left as it is, or the row of the office is missing or of
-    /// another format than that of the tables; `Damaged` with the table and the first row, counted from 1, that breaks the
-    /// rules of an office, or with row 0 if a statement on the table was refused, `Memory`, and `Device` if the disk failed
-    /// or is full. After a fault a crash leaves the office as it was found, in the one schema or in the other, or the
-    /// tables of an empty one, and no transaction is under way. It hands the connection back then. A limit of steps of the
+    /// Opens the office whose tables the connection has, which is in no transaction; a database
+    /// that lacks them becomes that of an empty office. Tables of others may stand beside the
+    /// office's, as [`has_office_tables`](wb_sql::has_office_tables) and
+    /// [`lacks_office`](wb_sql::lacks_office) say. Each row of the office's tables is tested. An
+    /// office of the first schema, whose tables are those of format 1, is then brought over into
+    /// the second in one transaction: each record has build priority 0, and the table of its
+    /// records stays without a row. The faults are `NewerSchema` if the table `office` has one row,
+    /// with a format that is newer than this program's, whatever its other tables are; `NotOffice`
+    /// if the database has something of the office's names, but not its tables, or a table that
+    /// refers to them, and is then left as it is, or the row of the office is missing or of another
+    /// format than that of the tables; `Damaged` with the table and the first row, counted from 1,
+    /// that breaks the rules of an office, or with row 0 if a statement on the table was refused,
+    /// `Memory`, and `Device` if the disk failed or is full. After a fault a crash leaves the
+    /// office as it was found, in the one schema or in the other, or the tables of an empty one,
+    /// and no transaction is under way. It hands the connection back then. A limit of steps of the
     /// connection stays (this project's own).
     pub fn try_adopt(alloc: Global, conn: Connection<S>) -> Result<Office<S>, RefusedConnection<S>>
         requires idle { conn.in_transaction ≡ false }
@@ -112,8 +117,8 @@ impl<S: Alter + Drop> Office<S> {
         }
     }
 
-    /// Opens the office as [`try_adopt`](Office::try_adopt) does, but drops a connection that it refuses (this project's
-    /// own).
+    /// Opens the office as [`try_adopt`](Office::try_adopt) does, but drops a connection that it
+    /// refuses (this project's own).
     pub fn adopt(alloc: Global, conn: Connection<S>) -> Result<Office<S>, StoreFault>
         requires idle { conn.in_transaction ≡ false }
         ensures opened { IfOk result (λ office. office.is_closed ≡ false) }
@@ -147,8 +152,8 @@ impl<S: Alter + Drop> Office<S> {
         }
     }
 
-    /// Whether the office is closed: it answers `Closed` to each command, until it is opened again. Takes no memory
-    /// (this project's own).
+    /// Whether the office is closed: it answers `Closed` to each command, until it is opened again.
+    /// Takes no memory (this project's own).
     pub fn closed(&self) -> bool
         ensures value { result ≡ self.now.is_closed }
     {
@@ -157,12 +162,13 @@ impl<S: Alter + Drop> Office<S> {
 
     /// Carries out one command, whole or not at all, and answers it.
     ///
-    /// An accepted command is one transaction, which is committed before it is answered. The refusal is the first that
-    /// is true of the command in the order of [`Refusal`]; the office is then as it was. Its texts are tested before the
-    /// tables are asked, so that no command whose texts are refused is answered `Store`. After `Memory` the office is as
-    /// it was too, but is closed if the transaction could not be taken back. After `Store` it is closed, and a crash
-    /// leaves the command whole or not at all. A closed office, and no other, answers `Closed` to each command (this
-    /// project's own).
+    /// An accepted command is one transaction, which is committed before it is answered. The
+    /// refusal is the first that is true of the command in the order of [`Refusal`]; the office is
+    /// then as it was. Its texts are tested before the tables are asked, so that no command whose
+    /// texts are refused is answered `Store`. After `Memory` the office is as it was too, but is
+    /// closed if the transaction could not be taken back. After `Store` it is closed, and a crash
+    /// leaves the command whole or not at all. A closed office, and no other, answers `Closed` to
+    /// each command (this project's own).
     pub fn apply(&mut self, command: &Command) -> Result<Reply, Refusal>
         ensures applies { Applies S.Store command.now self.old.is_closed self.old.known self.old.store
             self.new.is_closed self.new.known self.new.store result }
@@ -181,17 +187,19 @@ impl<S: Alter + Drop> Office<S> {
         }
     }
 
-    /// Merges a Sources list and a Packages list of each of some architectures, as readers give them, whole or not at all, and
-    /// answers it. No list is held in memory.
+    /// Merges a Sources list and a Packages list of each of some architectures, as readers give
+    /// them, whole or not at all, and answers it. No list is held in memory.
     ///
-    /// An accepted merge is one transaction, which is committed before it is answered. The names of the architectures are
-    /// tested before anything is read: `BadName` comes if one is malformed, and `RepeatedArch` if two are the same, and
-    /// nothing is done. Sources is read once, before the others; a Packages list is not read if its architecture was never
-    /// added. If no part was merged, the refusal is that of the first, or `UnknownArch` if there is none: `UnknownArch`, or
-    /// `BadListing`, with the fault `Read` if the list could not be read on. `Spent` comes if no more command can be counted.
-    /// The office is then as it was. After `Memory` it is as it was too, but is closed if the transaction could not be taken
-    /// back. After `Store` it is closed, and a crash leaves the merge whole or not at all. A closed office, and no other,
-    /// answers `Closed` (this project's own).
+    /// An accepted merge is one transaction, which is committed before it is answered. The names of
+    /// the architectures are tested before anything is read: `BadName` comes if one is malformed,
+    /// and `RepeatedArch` if two are the same, and nothing is done. Sources is read once, before
+    /// the others; a Packages list is not read if its architecture was never added. If no part was
+    /// merged, the refusal is that of the first, or `UnknownArch` if there is none: `UnknownArch`,
+    /// or `BadListing`, with the fault `Read` if the list could not be read on. `Spent` comes if no
+    /// more command can be counted. The office is then as it was. After `Memory` it is as it was
+    /// too, but is closed if the transaction could not be taken back. After `Store` it is closed,
+    /// and a crash leaves the merge whole or not at all. A closed office, and no other, answers
+    /// `Closed` (this project's own).
     pub fn merge_from<R: BufRead + Drop>(
         &mut self,
         sources: R,
@@ -214,14 +222,15 @@ impl<S: Alter + Drop> Office<S> {
         }
     }
 
-    /// Answers a query, which changes nothing: the queue of an architecture, its records in a state, by the names of their
-    /// source packages, or how many are in each; a record, or what it needs to be built; or what a builder holds, of all
-    /// architectures, by take number.
+    /// Answers a query, which changes nothing: the queue of an architecture, its records in a
+    /// state, by the names of their source packages, or how many are in each; a record, or what it
+    /// needs to be built; or what a builder holds, of all architectures, by take number.
     ///
-    /// The refusals come in this order: `Closed`, `BadName` if a name is malformed or no state has the state's name,
-    /// `UnknownArch` if the architecture was never added, `UnknownBuilder` if the builder was added for no architecture,
-    /// `UnknownSource` if the source package has no record there. `Memory` comes for no malformed name; the office is then
-    /// closed if its connection cannot be used on. After `Store` it is closed. The office is as it was after each answer
+    /// The refusals come in this order: `Closed`, `BadName` if a name is malformed or no state has
+    /// the state's name, `UnknownArch` if the architecture was never added, `UnknownBuilder` if the
+    /// builder was added for no architecture, `UnknownSource` if the source package has no record
+    /// there. `Memory` comes for no malformed name; the office is then closed if its connection
+    /// cannot be used on. After `Store` it is closed. The office is as it was after each answer
     /// (this project's own).
     pub fn ask(&mut self, query: &Query) -> Result<Answer, Refusal>
         ensures asks { Asks S.Store (λ machine. answer_of machine query.now)
@@ -244,8 +253,34 @@ impl<S: Alter + Drop> Office<S> {
         }
     }
 
-    /// Each row of the office's tables, once, as [`Store::rows`] has them, of an office that is open. The office is as it
-    /// was; after a fault it is given up.
+    /// The builder of the record that is held under this take number, or none if nobody holds it,
+    /// as for a number that was never given.
+    ///
+    /// `Closed` comes of a closed office, and of no other. `Memory` comes if there is no memory for
+    /// what is read; the office is then closed if its connection cannot be used on. After `Store`
+    /// it is closed. No other refusal comes, and the office is as it was after each answer (this
+    /// project's own).
+    pub fn holder_of(&mut self, take_number: u64) -> Result<Option<Text>, Refusal>
+        ensures asks { Asks S.Store (λ machine. Ok (holder_of machine take_number))
+            false self.old.is_closed self.old.known self.old.store
+            self.new.is_closed self.new.known self.new.store result }
+        ensures refused { IfErr result (λ refusal. IsOfMachine refusal → is_of_store refusal ≡ true) }
+    {
+        if self.is_closed {
+            return Err(Refusal::Closed);
+        }
+        match find_holder(&mut self.store, take_number) {
+            Ok(holder) => Ok(holder),
+            Err(fault) => {
+                let (refusal, is_closed) = end_with(&mut self.store, fault);
+                self.is_closed = is_closed;
+                Err(refusal)
+            }
+        }
+    }
+
+    /// Each row of the office's tables, once, as [`Store::rows`] has them, of an office that is
+    /// open. The office is as it was; after a fault it is given up.
     pub(crate) fn rows(&mut self) -> Result<Items<TableRow>, StoreFault>
         ensures kept { (self.new.is_closed ≡ self.old.is_closed) × (self.new.known ≡ self.old.known) }
         ensures clean { HasCleanDisk (state S.Store self.new.store) → HasCleanDisk (state S.Store self.old.store) }
@@ -263,10 +298,11 @@ impl<S: Alter + Drop> Office<S> {
 }
 
 impl<D: Disk + Drop> Office<FileStore<D>> {
-    /// Opens the office that two files hold, a database and its log; a database that lacks the office's tables becomes
-    /// that of an empty office. Each row is tested. The faults are those of [`Store::try_open`] if the files cannot be
-    /// opened as a database, and those of [`try_adopt`](Office::try_adopt); the files are handed back then, and hold what
-    /// they held (this project's own).
+    /// Opens the office that two files hold, a database and its log; a database that lacks the
+    /// office's tables becomes that of an empty office. Each row is tested. The faults are those of
+    /// [`Store::try_open`] if the files cannot be opened as a database, and those of
+    /// [`try_adopt`](Office::try_adopt); the files are handed back then, and hold what they held
+    /// (this project's own).
     pub fn try_open(
         alloc: Global,
         files: Files<D>,
@@ -300,7 +336,8 @@ impl<D: Disk + Drop> Office<FileStore<D>> {
         })
     }
 
-    /// Opens the office as [`try_open`](Office::try_open) does, but drops files that it refuses (this project's own).
+    /// Opens the office as [`try_open`](Office::try_open) does, but drops files that it refuses
+    /// (this project's own).
     pub fn open(
         alloc: Global,
         files: Files<D>,
@@ -328,9 +365,10 @@ impl<D: Disk + Drop> Office<FileStore<D>> {
         }
     }
 
-    /// Closes the office, and gives back its files: they hold its state, also after a crash. The fault is `Memory`, or
-    /// `Device` if the disk failed or is full, or if a fault shut the connection before; the files are handed back then too,
-    /// and a crash leaves no more than before (this project's own).
+    /// Closes the office, and gives back its files: they hold its state, also after a crash. The
+    /// fault is `Memory`, or `Device` if the disk failed or is full, or if a fault shut the
+    /// connection before; the files are handed back then too, and a crash leaves no more than
+    /// before (this project's own).
     pub fn try_close(self) -> Result<Files<D>, RefusedFiles<D>>
         ensures settled { IfOk result (λ files. AreClean D.Disk files.log files.db → (machine : Machine)
             → StandsAt machine self.is_closed self.known (file_state self.store)
@@ -345,8 +383,8 @@ impl<D: Disk + Drop> Office<FileStore<D>> {
         self.store.try_close()
     }
 
-    /// Closes the office as [`try_close`](Office::try_close) does, but drops files that are not closed (this project's
-    /// own).
+    /// Closes the office as [`try_close`](Office::try_close) does, but drops files that are not
+    /// closed (this project's own).
     pub fn close(self) -> Result<Files<D>, StoreFault>
         ensures settled { IfOk result (λ files. AreClean D.Disk files.log files.db → (machine : Machine)
             → StandsAt machine self.is_closed self.known (file_state self.store)
@@ -364,8 +402,9 @@ impl<D: Disk + Drop> Office<FileStore<D>> {
         }
     }
 
-    /// Gives the office up, as after a fault, and hands out its files. A crash leaves of them what it could leave of the
-    /// office: its state, or, after a commit in doubt, the state before or after it (this project's own).
+    /// Gives the office up, as after a fault, and hands out its files. A crash leaves of them what
+    /// it could leave of the office: its state, or, after a commit in doubt, the state before or
+    /// after it (this project's own).
     pub fn surrender(self) -> Files<D>
         ensures left { AreClean D.Disk result.log result.db → LeaveOnly D.Disk result (file_state self.store).may_leave }
         ensures clean { AreClean D.Disk result.log result.db → HasCleanDisk (file_state self.store) }
@@ -408,6 +447,13 @@ impl<S: Alter + Drop> CarryOut for Office<S> {
         Office::ask(self, query)
     }
 
+    fn holder_of(&mut self, take_number: u64) -> Result<Option<Text>, Refusal> {
+        Office::holder_of(self, take_number)
+    }
+
+    // Nothing of the office depends on who asks.
+    fn asked_by(&mut self, _name: Option<&Text>) {}
+
     ghost consistent = { λ office machine stands. stands.consistent };
 }
 
@@ -446,8 +492,8 @@ fn end_uncommitted<S: Alter + Drop>(store: &mut Store<S>, failure: CarryError) -
     }
 }
 
-/// What is answered after this fault of a call that changed nothing: out of memory, the office goes on if its
-/// connection can still be used, and otherwise it is closed.
+/// What is answered after this fault of a call that changed nothing: out of memory, the office goes
+/// on if its connection can still be used, and otherwise it is closed.
 fn end_with<S: Alter + Drop>(store: &mut Store<S>, fault: StoreFault) -> (Refusal, bool)
     ensures ends { EndsWith S.Store fault store.old store.new result.0 result.1 }
 {

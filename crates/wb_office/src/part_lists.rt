@@ -1,4 +1,5 @@
-//! The parts of a merge as lists that are to be read, whether these are in memory or readers give them.
+//! The parts of a merge as lists that are to be read, whether these are in memory or readers give
+//! them.
 ghost use Rattle.std.specs.Prelude.{◌≡◌, ◌++◌, ◌∷◌, [], IfOk, OnOk};
 ghost use Rattle.std.specs.FinMap as map;
 ghost use Rattle.std.specs.List.{AllZip};
@@ -52,7 +53,8 @@ fn push_part<R: Drop>(lists: &mut Vec<PartList<R>>, list: PartList<R>) -> Result
     Ok(())
 }
 
-/// The parts of a merge in an office that has these architectures. The only error is that there is no memory for them.
+/// The parts of a merge in an office that has these architectures. The only error is that there is
+/// no memory for them.
 pub(crate) fn part_lists<'a>(
     alloc: Global,
     archs: &[(Text, OsCpu)],
@@ -69,7 +71,8 @@ pub(crate) fn part_lists<'a>(
     Ok(lists)
 }
 
-/// A list that a reader gives, with the words that its architecture has among these. Nothing is read of it.
+/// A list that a reader gives, with the words that its architecture has among these. Nothing is
+/// read of it.
 fn feed_list<R: BufRead + Drop>(
     archs: &[(Text, OsCpu)],
     list: ArchList<R>,
@@ -86,7 +89,8 @@ fn feed_list<R: BufRead + Drop>(
     })
 }
 
-/// The lists that readers give, in an office that has these architectures. The only error is that there is no memory for them.
+/// The lists that readers give, in an office that has these architectures. The only error is that
+/// there is no memory for them.
 pub(crate) fn feed_lists<R: BufRead + Drop>(
     alloc: Global,
     archs: &[(Text, OsCpu)],

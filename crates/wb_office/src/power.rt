@@ -14,7 +14,8 @@ use sqlite_disk::{Crash, Disk};
 // since a crash of its connection leaves what it found alone. Cuts are counted, so a body that cuts
 // no power is refused; a list of the contents at each cut would take copies. `back` cannot fail: a
 // power that makes its cut in memory takes the memory before.
-/// What cuts the power, so many times, and hands back the files as they are once it is back (this project's own).
+/// What cuts the power, so many times, and hands back the files as they are once it is back (this
+/// project's own).
 pub trait Power<D: Disk> {
     // How many times it can still cut the power.
     ghost cuts_left: { Self → ℕ };
@@ -26,8 +27,9 @@ pub trait Power<D: Disk> {
     fn left(&self) -> u64
         ensures value { result ≡ cuts_left self.now };
 
-    /// Cuts the power once, and hands the files back. They can be used, and a crash of them leaves no more than one before
-    /// could. A power that hands back one content alone, so that a crash leaves that, is a special case.
+    /// Cuts the power once, and hands the files back. They can be used, and a crash of them leaves
+    /// no more than one before could. A power that hands back one content alone, so that a crash
+    /// leaves that, is a special case.
     fn back(&mut self, files: Files<D>) -> Files<D>
         requires some { 0 < cuts_left self.old }
         ensures counted { cuts_left self.old ≡ cuts_left self.new + 1 }
@@ -66,7 +68,8 @@ impl<D: Crash> Power<D> for Crashes {
     }
 }
 
-/// Cuts the power once. A crash after it leaves no more than a crash before it, so files that were settled still are.
+/// Cuts the power once. A crash after it leaves no more than a crash before it, so files that were
+/// settled still are.
 pub fn cut_power<D: Disk, P: Power<D>>(power: &mut P, files: Files<D>) -> Files<D>
     requires some { 0 < P.cuts_left power.old }
     ensures counted { P.cuts_left power.old ≡ P.cuts_left power.new + 1 }

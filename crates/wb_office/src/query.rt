@@ -1,7 +1,9 @@
 //! What the office is asked that changes nothing, read from its tables.
 ghost use Rattle.std.specs.Prelude.{◌≡◌, false, not, IfErr, IfOk};
 ghost use Rattle.deb_text.specs.Lists.{is_nonempty};
+ghost use Rattle.wb_states.specs.Holds.{holder_of};
 ghost use Rattle.wb_states.specs.Refusals.{is_of_store};
+ghost use Rattle.std.specs.Option.{option_and_then};
 ghost use Rattle.std.specs.Prelude.{Some};
 ghost use Rattle.wb_states.specs.Machine.{is_unknown_arch};
 ghost use Rattle.wb_states.specs.Queries.{answer_in, depends_at, depends_in, found_at, item_in, mine_in};
@@ -16,8 +18,9 @@ use std::alloc::AllocError;
 use wb_states::{Answer, KeyedRecord, Query, Record, Refusal, State, StoreFault};
 use wb_store::Store;
 
-/// What the office answers to a query of which each name has its form. The faults are those of the look-ups, and `Memory`.
-/// The database stays as it is; only a failed look-up may take a transaction back.
+/// What the office answers to a query of which each name has its form. The faults are those of the
+/// look-ups, and `Memory`. The database stays as it is; only a failed look-up may take a
+/// transaction back.
 pub(crate) fn find_answer<S: Alter + Drop>(
     store: &mut Store<S>,
     query: &Query,
@@ -123,7 +126,8 @@ fn find_item<S: Alter + Drop>(
     Ok(item_found(arch, source, found)?)
 }
 
-/// The answer with the record that was found, or that there is none. The error is that there is no memory for it.
+/// The answer with the record that was found, or that there is none. The error is that there is no
+/// memory for it.
 fn item_found(
     arch: &Text,
     source: &Text,
@@ -179,8 +183,8 @@ fn find_depends<S: Alter + Drop>(
     Ok(depends_found(arch, source, kept)?)
 }
 
-/// The answer with what the record that was found needs, or that there is none. The error is that there is no memory for
-/// it.
+/// The answer with what the record that was found needs, or that there is none. The error is that
+/// there is no memory for it.
 fn depends_found(
     arch: &Text,
     source: &Text,
@@ -264,4 +268,30 @@ fn find_builders<S: Alter + Drop>(
         accepted: of_office.accepted,
         pairs,
     }))
+}
+
+/// The builder of the record that is held under the take number, or none if nobody holds it. The
+/// faults are those of the look-up.
+pub(crate) fn find_holder<S: Alter + Drop>(
+    store: &mut Store<S>,
+    take_number: u64,
+) -> Result<Option<Text>, StoreFault>
+    ensures finds { Finds S.Store (λ machine holder. holder ≡ holder_of machine take_number)
+        store.old store.new result }
+{
+    let found = store.by_take(take_number)?;
+    Ok(holder_in(found))
+}
+
+/// The holder of the record that was found, or none if none was found.
+fn holder_in(found: Option<KeyedRecord>) -> Option<Text>
+    ensures value { result ≡ option_and_then (λ row. row.current.holder) found }
+{
+    match found {
+        Some(row) => {
+            let current = row.current;
+            current.holder
+        }
+        None => None,
+    }
 }

@@ -1,5 +1,6 @@
-//! What the office answers to a report over its tables: the records that its lines name are read, and those that differ
-//! are written in one transaction. The lines were read when the texts of the command were tested.
+//! What the office answers to a report over its tables: the records that its lines name are read,
+//! and those that differ are written in one transaction. The lines were read when the texts of the
+//! command were tested.
 ghost use Rattle.std.specs.Prelude.{◌≡◌, ◌++◌, bytes_eq, nat_le, false, None, Some, map as each, option_and_then, option_map, IfOk, IfErr, OnOk};
 ghost use Rattle.std.specs.List.{list_any};
 ghost use Rattle.std.specs.Str.{IsUtf8};
@@ -48,7 +49,8 @@ fn is_spent(counts: Counts) -> bool
     COUNT_LIMIT <= counts.accepted
 }
 
-/// Tests a report whose texts are not refused against the counts and the architectures of an office.
+/// Tests a report whose texts are not refused against the counts and the architectures of an
+/// office.
 fn check_report(counts: Counts, archs: &[(Text, OsCpu)], report: &Report) -> Result<(), Refusal>
     requires texts { text_refusal (of.Report report.now) ≡ None }
     ensures good { OnOk result ((machine : Machine) → AreOf counts archs.now machine
@@ -67,9 +69,9 @@ fn check_report(counts: Counts, archs: &[(Text, OsCpu)], report: &Report) -> Res
     Ok(())
 }
 
-/// The record of the source package after the line of the report that names it, with its key, if a field of it differs.
-/// The faults are those of the look-up, and `Memory`. The database stays as it is; only a failed query may take a
-/// transaction back.
+/// The record of the source package after the line of the report that names it, with its key, if a
+/// field of it differs. The faults are those of the look-up, and `Memory`. The database stays as it
+/// is; only a failed query may take a transaction back.
 fn find_row<S: Alter + Drop>(
     alloc: Global,
     store: &mut Store<S>,
@@ -85,8 +87,8 @@ fn find_row<S: Alter + Drop>(
     row_found(alloc, arch, lines, source, found)
 }
 
-/// The record that was found, after the line of the report that names it, if a field of it differs. The only fault is
-/// `Memory`.
+/// The record that was found, after the line of the report that names it, if a field of it differs.
+/// The only fault is `Memory`.
 fn changed_if_found(
     alloc: Global,
     found: Option<Record>,
@@ -119,7 +121,8 @@ fn row_found(
     Ok(keyed(arch, source, changed)?)
 }
 
-/// Adds the row after the others, if one was found. The only error is that there is no memory for it.
+/// Adds the row after the others, if one was found. The only error is that there is no memory for
+/// it.
 fn push_found(rows: &mut Vec<KeyedRecord>, found: Option<KeyedRecord>) -> Result<(), AllocError>
     ensures ok { OnOk result (rows.new.items ≡ rows.old.items ++ listed found) }
 {
@@ -129,8 +132,8 @@ fn push_found(rows: &mut Vec<KeyedRecord>, found: Option<KeyedRecord>) -> Result
     Ok(())
 }
 
-/// The records that differ after the report, with their keys. The faults are those of the look-ups, and `Memory`. The
-/// database stays as it is; only a failed query may take a transaction back.
+/// The records that differ after the report, with their keys. The faults are those of the look-ups,
+/// and `Memory`. The database stays as it is; only a failed query may take a transaction back.
 fn find_rows<S: Alter + Drop>(
     alloc: Global,
     store: &mut Store<S>,
@@ -160,9 +163,10 @@ fn check_counts(counts: Counts) -> Result<(), StoreFault>
     Ok(())
 }
 
-/// Writes these records and counts in a transaction that is under way. The fault is that of the statement that failed, or
-/// `Damaged` with row 0 of the office or of the records if a count or a take number is above [`COUNT_LIMIT`]; the caller
-/// then takes the transaction back (this project's own).
+/// Writes these records and counts in a transaction that is under way. The fault is that of the
+/// statement that failed, or `Damaged` with row 0 of the office or of the records if a count or a
+/// take number is above [`COUNT_LIMIT`]; the caller then takes the transaction back (this project's
+/// own).
 fn write_rows<S: Alter + Drop>(
     writing: &mut Writing<'_, S>,
     rows: &[KeyedRecord],
@@ -176,8 +180,9 @@ fn write_rows<S: Alter + Drop>(
     writing.set_counts(counts)
 }
 
-/// Writes these records and counts in a transaction of its own, and commits it. The errors are those of [`CarryError`],
-/// with the fault of `write_rows` or of the commit; after each but `InDoubt` the office is as it was (this project's own).
+/// Writes these records and counts in a transaction of its own, and commits it. The errors are
+/// those of [`CarryError`], with the fault of `write_rows` or of the commit; after each but
+/// `InDoubt` the office is as it was (this project's own).
 fn carry_rows<S: Alter + Drop>(
     store: &mut Store<S>,
     rows: &[KeyedRecord],
@@ -252,8 +257,8 @@ fn answer_lines<S: Alter + Drop>(
     }
 }
 
-/// Carries out a report with these lines, whose texts are not refused: of the records only those that the lines name are
-/// read, and of these only those that differ afterwards are written.
+/// Carries out a report with these lines, whose texts are not refused: of the records only those
+/// that the lines name are read, and of these only those that differ afterwards are written.
 pub(crate) fn answer_report<S: Alter + Drop>(
     alloc: Global,
     store: &mut Store<S>,

@@ -9,8 +9,8 @@ use sqlite::Alter;
 use wb_states::{KeyedRecord, StoreFault, Table};
 use wb_store::{Writing, has_fitting_take, unfit};
 
-/// Puts these records, one after another; all else stays. The fault is that of the statement that failed, or `Damaged`
-/// with row 0 of the records at one whose take number is above the limit.
+/// Puts these records, one after another; all else stays. The fault is that of the statement that
+/// failed, or `Damaged` with row 0 of the records at one whose take number is above the limit.
 pub(crate) fn put_all<S: Alter + Drop>(
     writing: &mut Writing<'_, S>,
     rows: &[KeyedRecord],

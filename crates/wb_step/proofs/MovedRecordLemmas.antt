@@ -17,7 +17,8 @@ use Rattle.deb_text.specs.Text.{IsTextWithin}
 use Rattle.wb_states.specs.MoveTable.{HasForm}
 use Rattle.wb_states.proofs.MoveFormLemmas.{move_outcome-well}
 
--- what a move brings has its form: a builder that may build for the architecture, the next take number, which is the last one given afterwards, relations that were read, or a text
+-- what a move brings has its form: a builder that may build for the architecture, the next take number, which is the
+-- last one given afterwards, relations that were read, or a text
 abbrev pub IsGoodMove : Machine → ℕ → List ℕ → Move → Type 0
 IsGoodMove machine handed arch (to.Take holder take_number) =
     IsTrue (is_builder_name holder)

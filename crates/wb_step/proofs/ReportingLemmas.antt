@@ -1,4 +1,5 @@
--- A report moves records without a hold, keeps the invariant of the office, and is refused as its texts and the office say.
+-- A report moves records without a hold, keeps the invariant of the office, and is refused as its texts and the office
+-- say.
 use Rattle.std.proofs.Common.{◌≡◌, ◌≢◌, ◌∙◌, refl, sym, ap, subst, inl, ℕ, ◌+◌, ◌<◌, ◌≤◌, Bool, true, false, cond, ◌&&◌, List, [], ◌∷◌, Option, Some, None, Result, Ok, Err, IfErr, IfSome, OnOk, IsTrue, bytes_eq, nat_le, not, option_map, IsErrAnd}
 use Rattle.std.specs.Option.{option_or}
 use Rattle.std.specs.FinMap as map

@@ -177,7 +177,8 @@ assigned-is machine arch builder after accepted given is =
 
 -- ---- the retry
 
--- where the builder builds nothing after a number that is known, it builds afterwards what it was just handed, and nothing else
+-- where the builder builds nothing after a number that is known, it builds afterwards what it was just handed, and
+-- nothing else
 retried : (machine : Machine) (arch builder : List ℕ) (known : ℕ) (entry : Entry) → head_of machine arch ≡ Some entry → known ≤ machine.handed
     → ((other : Entry) → Stands machine other → is_held_by builder other ≡ true → is_building_after arch known other ≡ false)
     → building_after (handed_to machine builder entry) arch builder known ≡ Some (taken builder (machine.handed + 1) entry)

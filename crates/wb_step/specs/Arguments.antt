@@ -24,8 +24,9 @@ pub data Import : Type 0 where
   -- the lines of a report
   Lines : Report → Import
 
--- what a command may bring: an architecture that must be there, a builder that may build for it and is handed a record, a version,
--- relations, the number of a rebuild, a build priority, a note, a reason or a message, what it adds, and what it imports
+-- what a command may bring: an architecture that must be there, a builder that may build for it and is handed a record,
+-- a version, relations, the number of a rebuild, a build priority, a note, a reason or a message, what it adds, and
+-- what it imports
 pub record Arguments : Type 0 where
   pub arch : Option (List ℕ)
   pub builder : Option (List ℕ)

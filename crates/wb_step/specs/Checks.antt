@@ -277,7 +277,8 @@ other_version machine command =
     option_and_then (λ version. option_and_then (λ key. other_version_at machine key version) (source_named command))
     (arguments_of command).version
 
--- the record that it moves is not in a state from which the move goes, or else the move's relations or number are refused
+-- the record that it moves is not in a state from which the move goes, or else the move's relations or number are
+-- refused
 abbrev pub refused_move : Machine → Command → Option Refusal
 refused_move machine command = option_and_then (λ asked. move_refusal asked.1 asked.0.1) (transition_of machine command)
 

@@ -59,7 +59,8 @@ is_held_as take_number current = has_value (λ one. has_value (nat_eq take_numbe
 unfoldable pub holds : Machine → HandOut → Bool
 holds machine given = is_held_as given.take (map.get machine.records given.key)
 
--- one of the commands was accepted and ended the hold: before it the record had the take number, and after it the record does not have it, or is gone
+-- one of the commands was accepted and ended the hold: before it the record had the take number, and after it the
+-- record does not have it, or is gone
 abbrev pub Ends : Machine → List Command → HandOut → Type 0
 Ends machine [] given = ⊥
 Ends machine (command ∷ commands) given =

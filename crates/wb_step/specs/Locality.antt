@@ -18,9 +18,10 @@ use Rattle.wb_step.specs.Checks.{is_there_already, source_named, take_named}
 use Rattle.wb_step.specs.Targets.{again_of, next_named, transition_of}
 use Rattle.wb_step.specs.Step.{entered}
 
--- two states look alike to a command that imports nothing: they have the same counts and architectures, its builder was added for the same
--- architectures, and they have the same records of the source package and under the take number that it names, at the head of the queue
--- that it asks for, and of what its builder builds; and what it adds is there in both or in neither
+-- two states look alike to a command that imports nothing: they have the same counts and architectures, its builder was
+-- added for the same architectures, and they have the same records of the source package and under the take number that
+-- it names, at the head of the queue that it asks for, and of what its builder builds; and what it adds is there in
+-- both or in neither
 pub record LooksAlike (command : Command) (one other : Machine) : Type 0 where
   pub handed : one.handed ≡ other.handed
   pub accepted : one.accepted ≡ other.accepted
@@ -84,7 +85,8 @@ builders_after command builders = with_builder (arguments_of command).adds build
 abbrev pub handed_after : Command → ℕ → ℕ
 handed_after command handed = if is_some (arguments_of command).builder then handed + 1 else handed
 
--- the state after a command that is accepted, and imports nothing: one record is put, an architecture or a builder is added, and it is counted
+-- the state after a command that is accepted, and imports nothing: one record is put, an architecture or a builder is
+-- added, and it is counted
 abbrev pub changed : Machine → Command → Machine
 changed machine command = record {
   records = with_entry (entry_put machine command) machine.records;
@@ -100,8 +102,8 @@ changed machine command = record {
 abbrev pub IsKept : Machine → Entry → Type 0
 IsKept machine entry = map.get machine.records entry.0 ≡ Some entry.1
 
--- a state is a part of another: it has the same counts and architectures, no builder and no record that the other has not, and for each
--- record that is held its holder
+-- a state is a part of another: it has the same counts and architectures, no builder and no record that the other has
+-- not, and for each record that is held its holder
 pub record IsPartOf (part whole : Machine) : Type 0 where
   pub handed : part.handed ≡ whole.handed
   pub accepted : part.accepted ≡ whole.accepted

@@ -16,7 +16,8 @@ is_part_for parts arch = list_any (λ part. bytes_eq arch part.arch) parts
 abbrev pub entries_of_parts : Machine → List Part → List Entry
 entries_of_parts machine parts = filter (λ entry. is_part_for parts entry.0.0) (map.entries machine.records)
 
--- the part of an office that a merge looks at: the counts, the architectures, the records of the architectures of its parts, and their holders
+-- the part of an office that a merge looks at: the counts, the architectures, the records of the architectures of its
+-- parts, and their holders
 unfoldable pub part_for_merge : Machine → List Part → Machine
 part_for_merge machine parts = record {
   records = map.from_entries (entries_of_parts machine parts);
@@ -26,8 +27,8 @@ part_for_merge machine parts = record {
   accepted = machine.accepted;
 }
 
--- a state has the records of the architectures of a merge's parts and the number of accepted commands from one state, and all else from another;
--- both have the same last take number
+-- a state has the records of the architectures of a merge's parts and the number of accepted commands from one state,
+-- and all else from another; both have the same last take number
 pub record IsJoined (parts : List Part) (merged old new : Machine) : Type 0 where
   pub inside : (key : Key) → is_part_for parts key.0 ≡ true → map.get new.records key ≡ map.get merged.records key
   pub outside : (key : Key) → is_part_for parts key.0 ≡ false → map.get new.records key ≡ map.get old.records key

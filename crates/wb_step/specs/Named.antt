@@ -25,11 +25,13 @@ abbrev pub others_named : Machine → Subject → List Entry
 others_named machine (Head next) = held_again machine next.builder next.after
 others_named machine subject = []
 
--- the records that a command names: of a source package, under a take number, at the head of a queue, and what a builder that asks again holds
+-- the records that a command names: of a source package, under a take number, at the head of a queue, and what a
+-- builder that asks again holds
 abbrev pub entries_named : Machine → Command → List Entry
 entries_named machine command = listed (first_named machine (subject_of command)) ++ others_named machine (subject_of command)
 
--- the pairs of a builder and an architecture that are looked up: those of a builder, or the one that is added, if it is there
+-- the pairs of a builder and an architecture that are looked up: those of a builder, or the one that is added, if it is
+-- there
 abbrev pub pairs_sought : Machine → Option Addition → Option (List ℕ) → List Key
 pairs_sought machine added (Some builder) = each (λ arch. (builder, arch)) (archs_of machine builder)
 pairs_sought machine (Some (Builder fields)) None =
@@ -45,7 +47,8 @@ abbrev pub holder_pairs : List Entry → List Key
 holder_pairs [] = []
 holder_pairs (entry ∷ entries) = each (λ name. (name, entry.0.0)) (listed entry.1.holder) ++ holder_pairs entries
 
--- the part of an office that a command names: the counts, the architectures, the pairs and the records that it names, and their holders
+-- the part of an office that a command names: the counts, the architectures, the pairs and the records that it names,
+-- and their holders
 unfoldable pub part_named : Machine → Command → Machine
 part_named machine command = record {
   records = map.from_entries (entries_named machine command);

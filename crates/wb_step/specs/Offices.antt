@@ -8,8 +8,8 @@ use Rattle.wb_states.specs.declared.store_fault.StoreFault.{StoreFault}
 use Rattle.wb_states.specs.Refusals.{is_of_store}
 use Rattle.wb_step.specs.Step.{step}
 
--- how an office stands at a state: it answers commands, or it is closed; or its store failed with a fault, and so it is closed, with a command in doubt, which comes
--- after the state, or with none
+-- how an office stands at a state: it answers commands, or it is closed; or its store failed with a fault, and so it is
+-- closed, with a command in doubt, which comes after the state, or with none
 pub data Standing : Type 0 where
   Open : Standing
   Shut : Standing
@@ -23,15 +23,16 @@ Stands is_closed stands_at leaves office machine Shut = is_closed office × stan
 Stands is_closed stands_at leaves office machine (InDoubt command fault) = leaves office machine (step machine command).1 fault
 Stands is_closed stands_at leaves office machine (Failed fault) = leaves office machine machine fault
 
--- how an office that is not closed stands after an answer, whatever its store gives back: it never says that it is closed; after a fault of its
--- store it is closed, and after each other answer, but out of memory, it is not
+-- how an office that is not closed stands after an answer, whatever its store gives back: it never says that it is
+-- closed; after a fault of its store it is closed, and after each other answer, but out of memory, it is not
 pub record StandsOn {X : Type 0} (closed : Type 0) (result : Result X Refusal) : Type 0 where
   pub ok : OnOk result (¬ closed)
   pub never : ¬ (result ≡ Err Closed)
   pub ends : IfErr result (λ refusal. is_of_store refusal ≡ true → closed)
   pub opens : IfErr result (λ refusal. is_of_store refusal ≡ false → refusal ≢ Memory → ¬ closed)
 
--- from each state at which an office stood before, it came to a state at which it stands and of which this is so, if what it read of its store was what it wrote
+-- from each state at which an office stood before, it came to a state at which it stands and of which this is so, if
+-- what it read of its store was what it wrote
 abbrev pub Reaches : {X : Type 0} → (X → Type 0) → (X → Machine → Type 0) → X → X → (Machine → Machine → Type 0) → Type 0
 Reaches is_clean stands_at old new IsSo =
     (before : Machine) → is_clean new → stands_at old before → (after : Machine) × stands_at new after × IsSo before after

@@ -31,7 +31,8 @@ is_known machine part = map.contains_key machine.archs part.arch
 abbrev pub is_good : Machine → List ℕ → Part → Bool
 is_good machine sources part = is_ok (part_listing machine sources part)
 
--- why a merge is refused: no part can be merged, and this is why the first cannot; a merge without parts has no architecture
+-- why a merge is refused: no part can be merged, and this is why the first cannot; a merge without parts has no
+-- architecture
 abbrev pub parts_refusal : Machine → List ℕ → List Part → Option Refusal
 parts_refusal machine sources [] = Some UnknownArch
 parts_refusal machine sources (part ∷ parts) =

@@ -76,7 +76,8 @@ abbrev pub records_imported : Machine → Import → Records
 records_imported machine (Lists merge) = records_after machine merge.sources merge.parts machine.records
 records_imported machine (Lines report) = records_reported machine.records report.arch (lines_said report.text)
 
--- the state after a command that adds this, or else imports this, or else gives this build priority, or else moves a record
+-- the state after a command that adds this, or else imports this, or else gives this build priority, or else moves a
+-- record
 abbrev pub state_by : Machine → Command → Option Addition → Option Import → Option ℤ → Machine
 state_by machine command (Some added) imports value = after_adding machine added
 state_by machine command None (Some imported) value = record machine { records = records_imported machine imported }

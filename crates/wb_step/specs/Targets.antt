@@ -22,7 +22,8 @@ use Rattle.wb_step.specs.Arguments.{Import, Lists, Lines, arguments_of}
 unfoldable pub record_named : Machine → List ℕ → List ℕ → Option Entry
 record_named machine arch source = option_map (λ current. ((arch, source), current)) (map.get machine.records (arch, source))
 
--- the record by which what a command names is found: of a source package, under a take number, or at the head of a queue
+-- the record by which what a command names is found: of a source package, under a take number, or at the head of a
+-- queue
 abbrev pub first_named : Machine → Subject → Option Entry
 first_named machine Nothing = None
 first_named machine (Source arch source) = record_named machine arch source
@@ -80,7 +81,8 @@ next_in subject = None
 abbrev pub next_named : Command → Option Next
 next_named command = next_in (subject_of command)
 
--- what is reported to a builder again: what it builds on the architecture under the least take number after the one that it names (this project's own)
+-- what is reported to a builder again: what it builds on the architecture under the least take number after the one
+-- that it names (this project's own)
 abbrev pub again_of : Machine → Command → Option Entry
 again_of machine command =
     option_and_then (λ next. option_and_then (building_after machine next.arch next.builder) next.after) (next_named command)
@@ -89,20 +91,21 @@ again_of machine command =
 abbrev pub MayMove : Machine → Command → List ℕ × List ℕ → Type 0
 MayMove machine command key = (entry : Entry) × ((target_of machine command ≡ Some entry) × (key ≡ entry.0))
 
--- what is imported may change the record at a key: those of the architectures of a merge's parts, and of the source packages on a report's
--- architecture that its lines name
+-- what is imported may change the record at a key: those of the architectures of a merge's parts, and of the source
+-- packages on a report's architecture that its lines name
 abbrev pub MayImport : Import → List ℕ × List ℕ → Type 0
 MayImport (Lists merge) key = IsTrue (list_any (λ part. bytes_eq key.0 part.arch) merge.parts)
 MayImport (Lines report) key = IsTrue (bytes_eq key.0 report.arch && map.contains_key (by_source (lines_in report.text)) key.1)
 
--- a command that makes no move may change the record at a key: that of the source package that it names, or those that it imports
+-- a command that makes no move may change the record at a key: that of the source package that it names, or those that
+-- it imports
 abbrev pub MayPut : Subject → Option Import → List ℕ × List ℕ → Type 0
 MayPut (Source arch source) imports key = key ≡ (arch, source)
 MayPut subject (Some imported) key = MayImport imported key
 MayPut subject None key = ⊥
 
--- a command may change the record at a key: the one that it enters or moves or that gets a build priority, or those that it
--- imports
+-- a command may change the record at a key: the one that it enters or moves or that gets a build priority, or those
+-- that it imports
 abbrev pub MayChange : Machine → Command → List ℕ × List ℕ → Type 0
 MayChange machine command key =
     MatchOption (move_of machine command) (MayPut (subject_of command) (arguments_of command).imports key) (λ move. MayMove machine command key)

@@ -15,8 +15,8 @@ pub record Tells {X : Type 0} (first : Option Refusal) (result : Result X Refusa
   pub refused : IfErr result (λ refusal. IsOfMachine refusal → first ≡ Some refusal)
   pub memory : IfErr result (λ refusal. refusal ≡ Memory → first ≡ None)
 
--- the texts of a command are tested: what is said is their first refusal, or that there is none; and memory runs out only for a command whose texts
--- no check without memory refuses
+-- the texts of a command are tested: what is said is their first refusal, or that there is none; and memory runs out
+-- only for a command whose texts no check without memory refuses
 pub record ChecksTexts {X : Type 0} (command : Command) (result : Result X Refusal) : Type 0 where
   pub ok : OnOk result (text_refusal command ≡ None)
   pub passed : OnOk result (MayWantMemory command)

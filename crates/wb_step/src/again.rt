@@ -20,7 +20,8 @@ fn is_later(of: &Text, current: &Record, arch: &Text, after: u64) -> bool
         && (matches!(current.state, State::Building) && after < current.take.unwrap_or(0))
 }
 
-/// The first of the rows that is being built on the architecture under a take number after this one.
+/// The first of the rows that is being built on the architecture under a take number after this
+/// one.
 fn first_later<'a>(
     rows: Vec<(&'a (Text, Text), &'a Record)>,
     arch: &Text,
@@ -37,8 +38,8 @@ fn first_later<'a>(
     None
 }
 
-/// What the builder builds on the architecture under the least take number after this one. The only error is
-/// that memory ran out.
+/// What the builder builds on the architecture under the least take number after this one. The only
+/// error is that memory ran out.
 fn assignment_after(
     alloc: Global,
     office: &OfficePart,
@@ -60,8 +61,8 @@ fn assignment_after(
     }
 }
 
-/// What is reported to the builder again, if it asks after a take number and builds under a later one. The
-/// only error is that memory ran out.
+/// What is reported to the builder again, if it asks after a take number and builds under a later
+/// one. The only error is that memory ran out.
 pub(crate) fn assignment_again(
     alloc: Global,
     office: &OfficePart,

@@ -92,8 +92,8 @@ fn take_checked(
     move_checked(alloc, current, change)
 }
 
-/// The record after the builder took it, and the assignment that answers it, if both counts have room.
-/// Nothing is written.
+/// The record after the builder took it, and the assignment that answers it, if both counts have
+/// room. Nothing is written.
 pub(crate) fn prepare_assignment(
     alloc: Global,
     office: &OfficePart,
@@ -126,8 +126,8 @@ pub(crate) fn prepare_assignment(
     Ok(make_assigned(alloc, arch, source, current, after, take_number)?)
 }
 
-/// The record after a builder took it, with its key, and the assignment of the record before, which is `current`. The
-/// only error is that memory ran out.
+/// The record after a builder took it, with its key, and the assignment of the record before, which
+/// is `current`. The only error is that memory ran out.
 fn make_assigned(
     alloc: Global,
     arch: &Text,
@@ -207,8 +207,8 @@ fn next_head(
     keep_assignment(office, given)
 }
 
-/// Hands the head of the architecture's queue to the builder, or reports to it again what it builds there
-/// under the least take number after the one that it knows of.
+/// Hands the head of the architecture's queue to the builder, or reports to it again what it builds
+/// there under the least take number after the one that it knows of.
 pub(crate) fn next(
     alloc: Global,
     office: &mut OfficePart,

@@ -22,7 +22,8 @@ impl OfficePart {
     }
 
     /// Adds the architecture `name` with its words, or gives these words to one that is there. All
-    /// else stays. The only error is that memory ran out; all is then as it was (this project's own).
+    /// else stays. The only error is that memory ran out; all is then as it was (this project's
+    /// own).
     pub fn add_arch(&mut self, name: Text, words: OsCpu) -> Result<(), AllocError>
         ensures ok { OnOk result (self.new
             ≡ record self.old { archs = map.insert self.old.archs name words }) }

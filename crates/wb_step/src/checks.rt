@@ -71,8 +71,8 @@ pub(crate) fn is_assignment_spent(office: &OfficePart) -> bool
     COUNT_LIMIT <= counts.accepted || COUNT_LIMIT <= counts.handed
 }
 
-/// The architecture with its words, which are empty if it was never added. The only error is that memory
-/// ran out.
+/// The architecture with its words, which are empty if it was never added. The only error is that
+/// memory ran out.
 #[tactic(auto, unfolding(wb_states::specs::Machine::arch_words))]
 pub(crate) fn words_of(
     alloc: Global,

@@ -63,7 +63,8 @@ pub(crate) fn waits(
     wait_taken(alloc, office, command.take_number, read)
 }
 
-/// Lets the record that is held under the take number wait for the relations, as they are on its architecture.
+/// Lets the record that is held under the take number wait for the relations, as they are on its
+/// architecture.
 fn wait_taken(
     alloc: Global,
     office: &mut OfficePart,

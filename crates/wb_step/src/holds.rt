@@ -11,8 +11,8 @@ use std::alloc::AllocError;
 use wb_states::Record;
 
 impl OfficePart {
-    /// The record that is held under the take number, with its key, or none: if several were, the first by
-    /// architecture and source package. Takes no memory (this project's own).
+    /// The record that is held under the take number, with its key, or none: if several were, the
+    /// first by architecture and source package. Takes no memory (this project's own).
     #[tactic(auto, unfolding(wb_states::specs::Holds::taken_as))]
     pub fn by_take(&self, take_number: u64) -> Option<(&(Text, Text), &Record)>
         ensures value { option_map deref_pair result ≡ taken_as self.now take_number }
@@ -25,8 +25,8 @@ impl OfficePart {
         None
     }
 
-    /// The records that the builder holds, of all architectures, with their keys, by take number. The only
-    /// error is that memory ran out for the list (this project's own).
+    /// The records that the builder holds, of all architectures, with their keys, by take number.
+    /// The only error is that memory ran out for the list (this project's own).
     pub fn held_by(&self, builder: &Text) -> Result<Vec<(&(Text, Text), &Record)>, AllocError>
         ensures value { IfOk result (λ rows.
             each deref_pair rows.items ≡ held_of self.now builder.now) }

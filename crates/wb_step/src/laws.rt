@@ -25,10 +25,10 @@ ghost use Rattle.wb_states.specs.Forms.{Built, Merge, Next};
 ghost use Rattle.wb_step.specs.Step.{step};
 ghost use Rattle.wb_step.specs.Utf8.{HasUtf8Texts, HaveUtf8Texts};
 
-/// Every step keeps the invariant of the office, over every state and command, and so does every list of
-/// commands from the empty office on: a source package on an architecture has at most one holder, which
-/// was added for that architecture, no take number is held twice, and all that is kept has its form.
-/// The free texts of a command are UTF-8, as each text of a program is.
+/// Every step keeps the invariant of the office, over every state and command, and so does every
+/// list of commands from the empty office on: a source package on an architecture has at most one
+/// holder, which was added for that architecture, no take number is held twice, and all that is
+/// kept has its form. The free texts of a command are UTF-8, as each text of a program is.
 pub fn steps_keep_consistency()
     ensures empty { IsConsistent empty_office }
     ensures step { (machine : Machine) (command : Command) → HasUtf8Texts command
@@ -37,8 +37,8 @@ pub fn steps_keep_consistency()
         → IsConsistent machine → IsConsistent (replay machine commands) }
 {}
 
-/// Every step keeps that a record has a take number exactly in the states in which a builder holds it,
-/// from the empty office on; and so it is in each office of which the invariant holds.
+/// Every step keeps that a record has a take number exactly in the states in which a builder holds
+/// it, from the empty office on; and so it is in each office of which the invariant holds.
 pub fn takes_stand_by_state()
     ensures empty { HasTakesByState empty_office }
     ensures consistent { (machine : Machine) → IsConsistent machine → HasTakesByState machine }
@@ -46,10 +46,10 @@ pub fn takes_stand_by_state()
         → HasTakesByState machine → HasTakesByState (step machine command).1 }
 {}
 
-/// The take numbers of what is handed out rise strictly from above the last one that was given, so that
-/// none is given twice. If one source package is handed out twice on an architecture, a command
-/// between the two was accepted and ended the first hold: a report of its holder, such as `attempted`, a
-/// command that names it, or a merge.
+/// The take numbers of what is handed out rise strictly from above the last one that was given, so
+/// that none is given twice. If one source package is handed out twice on an architecture, a
+/// command between the two was accepted and ended the first hold: a report of its holder, such as
+/// `attempted`, a command that names it, or a merge.
 pub fn takes_rise()
     ensures rise { (machine : Machine) (commands : List Command)
         → Rise machine.handed (hand_outs machine commands) }
@@ -81,9 +81,10 @@ pub fn hand_outs_are_held()
         × IsBeingBuilt given current) }
 {}
 
-/// If a builder asks again at once for the head of a queue, with the take number that it asked with, it
-/// gets the same assignment, and nothing changes. In a consistent office this is so if it lost the
-/// answer and asks after the last number that was given before, whatever it asked with the first time.
+/// If a builder asks again at once for the head of a queue, with the take number that it asked
+/// with, it gets the same assignment, and nothing changes. In a consistent office this is so if it
+/// lost the answer and asks after the last number that was given before, whatever it asked with the
+/// first time.
 pub fn retries_are_idempotent()
     ensures again { (machine : Machine) (arch builder : List ℕ) (after accepted : ℕ)
         (given : Assignment)
@@ -97,8 +98,8 @@ pub fn retries_are_idempotent()
         ≡ (Ok (Again accepted given), (step machine (Next arch builder after)).1) }
 {}
 
-/// A take number is a fencing token: one that was given and under which nothing is held is never held
-/// again, so that each later command under it is refused, however late it comes.
+/// A take number is a fencing token: one that was given and under which nothing is held is never
+/// held again, so that each later command under it is refused, however late it comes.
 pub fn ended_takes_stay_ended()
     ensures ended { (machine : Machine) (commands : List Command) (take_number : ℕ)
         → take_number ≤ machine.handed → taken_as machine take_number ≡ None
@@ -113,16 +114,17 @@ pub fn ended_takes_stay_ended()
         → (step (replay machine commands) (Built take_number)).0 ≡ Err NotHeld }
 {}
 
-/// A command changes no record but the one that it enters, moves or gives a build priority; a merge changes only records
-/// of its parts' architectures, and a report only those of its architecture that its lines name.
+/// A command changes no record but the one that it enters, moves or gives a build priority; a merge
+/// changes only records of its parts' architectures, and a report only those of its architecture
+/// that its lines name.
 pub fn commands_leave_other_records()
     ensures others { (machine : Machine) (command : Command) (key : List ℕ × List ℕ)
         → (MayChange machine command key → ⊥)
         → map.get (step machine command).1.records key ≡ map.get machine.records key }
 {}
 
-/// A builder that asks for the head of a queue is handed the first of the queue, and the rest stays in its
-/// order.
+/// A builder that asks for the head of a queue is handed the first of the queue, and the rest stays
+/// in its order.
 pub fn next_takes_the_head()
     ensures queue { (machine : Machine) (arch builder : List ℕ) (after : Option ℕ) (accepted : ℕ)
         (given : Assignment)
@@ -132,8 +134,9 @@ pub fn next_takes_the_head()
         ∷ queue_of (step machine (Next arch builder after)).1 arch) }
 {}
 
-/// The parts of an accepted merge are independent: the records of a part's architecture are afterwards what
-/// that part alone makes of the records before the merge, or as they were if it is refused.
+/// The parts of an accepted merge are independent: the records of a part's architecture are
+/// afterwards what that part alone makes of the records before the merge, or as they were if it is
+/// refused.
 pub fn parts_are_merged_apart()
     ensures part { (machine : Machine) (sources : List ℕ) (before : List Part) (part : Part)
         (behind : List Part) (key : List ℕ × List ℕ)
@@ -143,10 +146,11 @@ pub fn parts_are_merged_apart()
         ≡ map.get (records_with machine.records part.arch (part_listing machine sources part)) key }
 {}
 
-/// A command that imports nothing, as a merge and a report do, looks at the counts, the architectures, the architectures of its builder, and the
-/// records that it names: by key, by take number, at the head of a queue, or as what its builder builds. Two
-/// offices in which these are the same give it the same answer, and it puts the same record into both. It changes
-/// nothing else.
+/// A command that imports nothing, as a merge and a report do, looks at the counts, the
+/// architectures, the architectures of its builder, and the records that it names: by key, by take
+/// number, at the head of a queue, or as what its builder builds. Two offices in which these are
+/// the same give it the same answer, and it puts the same record into both. It changes nothing
+/// else.
 pub fn commands_look_only_at_what_they_name()
     ensures answer { (command : Command) (one other : Machine) → LooksAlike command one other
         → (step one command).0 ≡ (step other command).0 }
@@ -157,8 +161,8 @@ pub fn commands_look_only_at_what_they_name()
         → (step machine command).1 ≡ changed machine command }
 {}
 
-/// A part of a consistent office is consistent, and if it has all that a command names, it looks alike to the
-/// command. So a command can be carried out over the rows that it names alone.
+/// A part of a consistent office is consistent, and if it has all that a command names, it looks
+/// alike to the command. So a command can be carried out over the rows that it names alone.
 pub fn parts_of_an_office_answer_alike()
     ensures consistent { (part whole : Machine) → IsPartOf part whole → IsConsistent whole → IsConsistent part }
     ensures alike { (part whole : Machine) → IsPartOf part whole → (command : Command)
@@ -169,10 +173,11 @@ pub fn parts_of_an_office_answer_alike()
         → (arguments_of command).imports ≡ None → HasAllNamed command (part_named machine command) machine }
 {}
 
-/// A merge looks at the counts, the architectures, and the records of the architectures that its parts are for.
-/// The part of a consistent office that has these alone is consistent, and gives a merge the same answer. It has
-/// afterwards the records that the whole office has of these architectures, and no other; and the whole office
-/// has the rest as it was. So a merge can be carried out over the rows of its architectures alone.
+/// A merge looks at the counts, the architectures, and the records of the architectures that its
+/// parts are for. The part of a consistent office that has these alone is consistent, and gives a
+/// merge the same answer. It has afterwards the records that the whole office has of these
+/// architectures, and no other; and the whole office has the rest as it was. So a merge can be
+/// carried out over the rows of its architectures alone.
 pub fn merges_look_only_at_their_architectures()
     ensures part { (machine : Machine) (parts : List Part) → IsConsistent machine
         → IsPartOf (part_for_merge machine parts) machine }
@@ -189,8 +194,8 @@ pub fn merges_look_only_at_their_architectures()
         → map.get (step (part_for_merge machine parts) (Merge sources parts)).1.records key ≡ None }
 {}
 
-/// A command is refused by its texts or by what the office has: no step answers that the office is closed, that its store
-/// failed or that memory ran out.
+/// A command is refused by its texts or by what the office has: no step answers that the office is
+/// closed, that its store failed or that memory ran out.
 pub fn refusals_are_of_the_state()
     ensures value { (machine : Machine) (command : Command) → IfErr (step machine command).0
         (λ refusal. (is_of_store refusal ≡ false) × IsOfMachine refusal) }

@@ -1,5 +1,5 @@
-//! One command is one step of the office's state: it is carried out in memory on what it names, answered and kept whole,
-//! or refused and nothing is changed.
+//! One command is one step of the office's state: it is carried out in memory on what it names,
+//! answered and kept whole, or refused and nothing is changed.
 #![tactic(auto)]
 
 mod again;

@@ -13,7 +13,8 @@ use std::alloc::AllocError;
 use wb_states::{OsCpu, Record};
 
 impl OfficePart {
-    /// The words of the architecture, or none if it was never added. Takes no memory (this project's own).
+    /// The words of the architecture, or none if it was never added. Takes no memory (this
+    /// project's own).
     pub fn arch(&self, name: &Text) -> Option<&OsCpu>
         ensures value { option_copied result ≡ map.get self.now.archs name.now }
     {
@@ -27,8 +28,8 @@ impl OfficePart {
         self.arch(name).is_some()
     }
 
-    /// Whether a builder of this name was added, for any architecture. Makes no list. The only error is that
-    /// memory ran out (this project's own).
+    /// Whether a builder of this name was added, for any architecture. Makes no list. The only
+    /// error is that memory ran out (this project's own).
     pub fn is_builder(&self, name: &Text) -> Result<bool, AllocError>
         ensures value { IfOk result (λ is_there. is_there ≡ is_nonempty (archs_of self.now name.now)) }
     {
@@ -41,8 +42,8 @@ impl OfficePart {
     }
 
     // A command about one architecture asks for this pair, and needs no list of architectures.
-    /// Whether the builder was added for the architecture. The only error is that memory ran out for the
-    /// pair by which it is sought (this project's own).
+    /// Whether the builder was added for the architecture. The only error is that memory ran out
+    /// for the pair by which it is sought (this project's own).
     pub fn has_builder(&self, builder: &Text, arch: &Text) -> Result<bool, AllocError>
         ensures value { IfOk result (λ is_there.
             is_there ≡ set.contains self.now.builders (builder.now, arch.now)) }
@@ -51,8 +52,8 @@ impl OfficePart {
         Ok(self.builders.contains(&pair))
     }
 
-    /// The record of the source package on the architecture, or none. The only error is that memory ran out
-    /// for the key by which it is sought (this project's own).
+    /// The record of the source package on the architecture, or none. The only error is that memory
+    /// ran out for the key by which it is sought (this project's own).
     pub fn get(&self, arch: &Text, source: &Text) -> Result<Option<&Record>, AllocError>
         ensures value { IfOk result (λ found.
             option_copied found ≡ map.get self.now.records (arch.now, source.now)) }
@@ -61,8 +62,8 @@ impl OfficePart {
         Ok(self.records.get(&key))
     }
 
-    /// Whether the source package has a record on the architecture. The only error is that memory ran out
-    /// for the key by which it is sought (this project's own).
+    /// Whether the source package has a record on the architecture. The only error is that memory
+    /// ran out for the key by which it is sought (this project's own).
     pub fn has_record(&self, arch: &Text, source: &Text) -> Result<bool, AllocError>
         ensures value { IfOk result (λ is_there.
             is_there ≡ map.contains_key self.now.records (arch.now, source.now)) }

@@ -88,7 +88,8 @@ struct Aside {
     note: Text,
 }
 
-/// The version and the note of a command that sets a source package aside, if its texts are not refused.
+/// The version and the note of a command that sets a source package aside, if its texts are not
+/// refused.
 fn read_aside(alloc: Global, command: &command::SetAside) -> Result<Aside, Refusal>
     ensures value { IfOk result (λ read.
         (read.version ≡ command.now.version) × (read.note ≡ command.now.note)) }

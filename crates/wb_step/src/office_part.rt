@@ -14,8 +14,8 @@ use wb_states::{Counts, OsCpu, Record};
 // `Store`. The map of pairs has no look-up that takes no memory.
 /// The part of the office that a command names, in memory: records, by architecture and source
 /// package, the words of architectures, pairs of a builder and an architecture for which it builds,
-/// and the two counts. A call that makes it larger can answer that memory ran out. Clauses see it as
-/// a state of an office (this project's own).
+/// and the two counts. A call that makes it larger can answer that memory ran out. Clauses see it
+/// as a state of an office (this project's own).
 #[derive(Drop)]
 pub struct OfficePart {
     pub(crate) alloc: Global,

@@ -13,8 +13,9 @@ use wb_states::{QueueKey, Record, State};
 impl OfficePart {
     // It goes through the records, as `by_take` does: a part has few of them. An index over maps
     // would be one more invariant to prove; the tables have indexes for both.
-    /// The head of the architecture's queue, which is built next, with its key, or none if no source package
-    /// of the architecture waits for a builder. Takes no memory (wanna-build's states page).
+    /// The head of the architecture's queue, which is built next, with its key, or none if no
+    /// source package of the architecture waits for a builder. Takes no memory (wanna-build's
+    /// states page).
     pub fn head(&self, arch: &Text) -> Option<(&(Text, Text), &Record)>
         ensures value { option_map deref_pair result ≡ head_of self.now arch.now }
         ensures first { IfSome (option_map deref_pair result) (λ entry. (entry.0.0 ≡ arch.now)

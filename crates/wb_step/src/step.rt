@@ -14,12 +14,14 @@ use wb_states::{Command, Move, Refusal, Reply};
 // No merge and no report: these may change many records, so an office carries them out over its
 // tables, one paragraph or one record at a time. `step` says what they do, and each law speaks of
 // them.
-/// Carries out one command on a part of an office in memory, whole or not at all, and answers it. The command is neither a
-/// merge nor a report. The part has what the command names, and need not be consistent.
+/// Carries out one command on a part of an office in memory, whole or not at all, and answers it.
+/// The command is neither a merge nor a report. The part has what the command names, and need not
+/// be consistent.
 ///
-/// The refusal is the first that is true of the command in the order of [`Refusal`]; `Memory` comes if there is no memory
-/// for it, at any point after its names, its version, its number and the lengths of its texts were looked at. After every
-/// refusal the part is as it was (this project's own).
+/// The refusal is the first that is true of the command in the order of [`Refusal`]; `Memory` comes
+/// if there is no memory for it, at any point after its names, its version, its number and the
+/// lengths of its texts were looked at. After every refusal the part is as it was (this project's
+/// own).
 pub fn carry_out(
     alloc: Global,
     office: &mut OfficePart,

@@ -30,10 +30,11 @@ use wb_states::{Command, Refusal, command, is_arch};
 // known before memory may run out holds of every office. The step tests the texts again, which
 // takes a few tests of names and reads a version or relations a second time: a step without these
 // tests would have them as a premise, and its laws would hold of fewer commands.
-/// Tests the texts of a command: names, version, relations, number, the lengths of free texts, and the lines of a report,
-/// which it hands on, so that a report is read once. Nothing of the office plays a part. The refusal is the first that is
-/// true of the texts, in the order of [`Refusal`]; `Memory` comes if there is no memory to read the version, the relations
-/// or the report, and for no command that another of its texts refuses (this project's own).
+/// Tests the texts of a command: names, version, relations, number, the lengths of free texts, and
+/// the lines of a report, which it hands on, so that a report is read once. Nothing of the office
+/// plays a part. The refusal is the first that is true of the texts, in the order of [`Refusal`];
+/// `Memory` comes if there is no memory to read the version, the relations or the report, and for
+/// no command that another of its texts refuses (this project's own).
 pub fn check_texts(alloc: Global, command: &Command) -> Result<Option<ReportLines>, Refusal>
     ensures checks { ChecksTexts command.now result }
     ensures lines { IfOk result (λ lines. lines ≡ report_lines command.now) }

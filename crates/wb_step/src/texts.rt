@@ -88,8 +88,8 @@ pub(crate) fn read_key(
     read_version(alloc, version)
 }
 
-/// The first refusal of a command that a later check refuses: that of what was read before, unless it is out of
-/// memory.
+/// The first refusal of a command that a later check refuses: that of what was read before, unless
+/// it is out of memory.
 pub(crate) fn read_refusal_or<T: Drop>(read: Result<T, Refusal>, later: Refusal) -> Refusal
     ensures value { (first : Option Refusal) → OnOk read (first ≡ None)
         → IfErr read (λ refusal. IsOfMachine refusal → first ≡ Some refusal)

@@ -51,8 +51,8 @@ pub(crate) fn keyed(
     }
 }
 
-/// The record of the source package on the architecture, with its key, or none if it has no record there. The faults
-/// are those of the look-up, and `Memory`.
+/// The record of the source package on the architecture, with its key, or none if it has no record
+/// there. The faults are those of the look-up, and `Memory`.
 fn find_source<S: Alter + Drop>(
     store: &mut Store<S>,
     arch: &Text,
@@ -65,8 +65,8 @@ fn find_source<S: Alter + Drop>(
     Ok(keyed(arch, source, found)?)
 }
 
-/// The first record that is named, or none if there is no such record. The faults are those of the look-up, and
-/// `Memory`.
+/// The first record that is named, or none if there is no such record. The faults are those of the
+/// look-up, and `Memory`.
 fn find_first<S: Alter + Drop>(
     store: &mut Store<S>,
     names: &Subject<'_>,
@@ -82,8 +82,8 @@ fn find_first<S: Alter + Drop>(
     }
 }
 
-/// The other records that are named, by take number: what a builder that asks again holds. The faults are those of the
-/// look-up.
+/// The other records that are named, by take number: what a builder that asks again holds. The
+/// faults are those of the look-up.
 fn find_others<S: Alter + Drop>(
     alloc: Global,
     store: &mut Store<S>,
@@ -114,7 +114,8 @@ fn pairs_with(
     Ok(pairs)
 }
 
-/// The builder with each architecture for which it was added. The faults are those of the look-up, and `Memory`.
+/// The builder with each architecture for which it was added. The faults are those of the look-up,
+/// and `Memory`.
 fn find_pairs_of<S: Alter + Drop>(
     alloc: Global,
     store: &mut Store<S>,
@@ -127,7 +128,8 @@ fn find_pairs_of<S: Alter + Drop>(
     Ok(pairs_with(alloc, builder, archs)?)
 }
 
-/// The pair of the builder and the architecture, if it is there. The only error is that there is no memory for it.
+/// The pair of the builder and the architecture, if it is there. The only error is that there is no
+/// memory for it.
 fn pair_if(
     alloc: Global,
     is_there: bool,
@@ -143,8 +145,8 @@ fn pair_if(
     Ok(pairs)
 }
 
-/// The pair of the builder and the architecture, if it was added. The faults are those of the look-up, and
-/// `Memory`.
+/// The pair of the builder and the architecture, if it was added. The faults are those of the
+/// look-up, and `Memory`.
 fn find_pair<S: Alter + Drop>(
     alloc: Global,
     store: &mut Store<S>,
@@ -158,8 +160,8 @@ fn find_pair<S: Alter + Drop>(
     Ok(pair_if(alloc, is_there, adds)?)
 }
 
-/// The pairs of a builder and an architecture that the command names. The faults are those of the look-up, and
-/// `Memory`.
+/// The pairs of a builder and an architecture that the command names. The faults are those of the
+/// look-up, and `Memory`.
 fn find_pairs<S: Alter + Drop>(
     alloc: Global,
     store: &mut Store<S>,
@@ -176,9 +178,9 @@ fn find_pairs<S: Alter + Drop>(
     }
 }
 
-/// What a command that names these records names of an office that has these counts and architectures. The faults are
-/// those of the look-ups, and `Memory`. The database stays as it is; only a failed query may take a transaction
-/// back.
+/// What a command that names these records names of an office that has these counts and
+/// architectures. The faults are those of the look-ups, and `Memory`. The database stays as it is;
+/// only a failed query may take a transaction back.
 pub(crate) fn find<S: Alter + Drop>(
     alloc: Global,
     store: &mut Store<S>,

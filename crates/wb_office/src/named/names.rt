@@ -9,8 +9,8 @@ use std::alloc::AllocError;
 use wb_states::KeyedRecord;
 pub(crate) use wb_states::Subject;
 
-/// The key of the record that is put, if the first record that is named is this one. The only error is that there is
-/// no memory for it.
+/// The key of the record that is put, if the first record that is named is this one. The only error
+/// is that there is no memory for it.
 pub(crate) fn key_of(
     names: &Subject<'_>,
     first: &Option<KeyedRecord>,

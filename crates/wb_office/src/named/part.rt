@@ -48,7 +48,8 @@ fn add_row(store: &mut OfficePart, row: KeyedRecord) -> Result<(), StoreFault>
     Ok(())
 }
 
-/// Adds the records and their holders: of two records with one key, the first. The only error is `Memory`.
+/// Adds the records and their holders: of two records with one key, the first. The only error is
+/// `Memory`.
 fn add_rows(store: &mut OfficePart, rows: Vec<KeyedRecord>) -> Result<(), StoreFault>
     ensures ok { OnOk result (store.new ≡ with_entries store.old (each entry_of rows.items)) }
     ensures fault { IfErr result (λ fault. fault ≡ Memory) }
@@ -71,8 +72,8 @@ fn add_first(store: &mut OfficePart, first: Option<KeyedRecord>) -> Result<(), S
     }
 }
 
-/// The office that has what was found, and the pairs of the records' holders, and nothing else. The only error is
-/// `Memory`.
+/// The office that has what was found, and the pairs of the records' holders, and nothing else. The
+/// only error is `Memory`.
 pub(crate) fn part_of(alloc: Global, found: FoundPart) -> Result<OfficePart, StoreFault>
     ensures value { IfOk result (λ part. part ≡ office_of found) }
     ensures fault { IfErr result (λ fault. fault ≡ Memory) }
