@@ -18,11 +18,13 @@ use Rattle.wb_api.specs.declared.request.Received.TheVariants as received
 use Rattle.wb_api.specs.declared.request.Request.{Request}
 use Rattle.wb_api.specs.declared.request.Request.TheVariants as request
 use Rattle.wb_api.specs.Responses.{IsRefusal, memory_response, reply_response, Response}
+use Rattle.wb_keys.specs.declared.access.Access.{Access}
+use Rattle.wb_keys.specs.declared.access.Shown.{Shown}
 use Rattle.wb_lists.specs.Lists.{MayRead, MayReadMerge}
 use Rattle.wb_lists.specs.declared.names.MergeNames.{MergeNames}
 use Rattle.wb_lists.proofs.OpenedLemmas.{merge-command}
-use Rattle.wb_api.specs.Exchange.{ExchangesWith, IsAnswerWith, IsCommandAnswer, IsMergeAnswer, RespondsWith, Sends}
-use Rattle.wb_api.specs.Exchange.{TellsOk}
+use Rattle.wb_api.specs.Exchange.{ExchangesWith, IsAnswerWith, IsCommandAnswer, IsMergeAnswer, IsNotAllowed, RespondsTo}
+use Rattle.wb_api.specs.Exchange.{RespondsWith, Sends, TellsOk}
 use Rattle.wb_api.specs.Exchange.{fault_response, status_of_refusal, over_http}
 use Rattle.wb_api.specs.declared.serve.Served.{Served}
 use Rattle.wb_api.specs.declared.serve.Served.TheVariants as served
@@ -163,6 +165,28 @@ responds-done may_read asked before after standing old new result (inl (response
 responds-done may_read asked before after standing old new result (inr mute) tells =
     absurd (silent-not_ok result served.Mute mute.5 mute-not_ok tells)
 
+-- that a request is not allowed, or that this was not found out, is not told with 200
+pub not_allowed-not_ok : (access : Access) (shown : Shown) (machine : Machine) (asked : Request) (response : Response)
+    (standing : Standing) → IsNotAllowed access shown machine asked response standing → ¬ (response.status ≡ 200)
+not_allowed-not_ok access shown machine asked response standing (inl (bad, same, open_still)) e =
+    not-200 403 (omega arith) (sym (ap (λ (r : Response). r.status) same) ∙ e)
+not_allowed-not_ok access shown machine asked response standing (inr (looks, inl (same, open_still))) e =
+    memory-not_ok machine response same e
+not_allowed-not_ok access shown machine asked response standing (inr (looks, inr (inl (refused, shut)))) e =
+    is_refusal-not_ok machine Closed response refused e
+not_allowed-not_ok access shown machine asked response standing (inr (looks, inr (inr (fault, refused, failed)))) e =
+    is_refusal-not_ok machine (Store fault) response refused e
+
+responds_to-done : (access : Access) (may_read : MayRead) (shown : Shown) (asked : Request) (before after : Machine)
+    (standing : Standing) (old new : Option (List ℕ)) (result : Served)
+    → RespondsTo access may_read shown asked before after standing old new result → TellsOk result
+    → IsRequestDone may_read before after standing asked
+responds_to-done access may_read shown asked before after standing old new result (inl (allowed, responds)) tells =
+    responds-done may_read asked before after standing old new result responds tells
+responds_to-done access may_read shown asked before after standing old new result (inr (same, response, refused, sent))
+    tells = absurd (not_allowed-not_ok access shown before asked response standing refused
+    (sends-ok response old new result sent tells))
+
 fault_apart : {asked : Request} {fault : Fault} → ¬ (◌≡◌ {A = Result Request Fault} (Ok asked) (Err fault))
 fault_apart e = cc
 
@@ -170,17 +194,17 @@ same_request : (one other : Request) → ◌≡◌ {A = Result Request Fault} (O
 same_request one other e = cc
 
 -- what was asked for is done, if the request was received and answered with 200
-pub exchange-done : (may_read : MayRead) (got : Received) (before after : Machine) (standing : Standing)
+pub exchange-done : (access : Access) (may_read : MayRead) (got : Received) (before after : Machine) (standing : Standing)
     (old new : Option (List ℕ)) (result : Served) (asked : Request)
-    → ExchangesWith may_read got before after standing old new result → Answers (Ok asked) got → TellsOk result
+    → ExchangesWith access may_read got before after standing old new result → Answers (Ok asked) got → TellsOk result
     → IsRequestDone may_read before after standing asked
-exchange-done may_read received.Nothing before after standing old new result asked did means tells = absurd means
-exchange-done may_read received.Failed before after standing old new result asked did means tells =
+exchange-done access may_read received.Nothing before after standing old new result asked did means tells = absurd means
+exchange-done access may_read received.Failed before after standing old new result asked did means tells =
     absurd (silent-not_ok result served.ReadFailed did.3 failed-not_ok tells)
-exchange-done may_read received.Memory before after standing old new result asked did means tells =
+exchange-done access may_read received.Memory before after standing old new result asked did means tells =
     absurd (memory-not_ok before (memory_response over_http before) refl (sends-ok (memory_response over_http before) old new result did.2 tells))
-exchange-done may_read (received.Refused fault) before after standing old new result asked did means tells =
+exchange-done access may_read (received.Refused fault) before after standing old new result asked did means tells =
     absurd (fault_apart means)
-exchange-done may_read (received.Asked other) before after standing old new result asked did means tells =
+exchange-done access may_read (received.Asked shown other) before after standing old new result asked did means tells =
     subst (IsRequestDone may_read before after standing) (same_request asked other means)
-    (responds-done may_read other before after standing old new result did tells)
+    (responds_to-done access may_read shown other before after standing old new result did tells)

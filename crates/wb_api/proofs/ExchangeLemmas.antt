@@ -26,6 +26,7 @@ use Rattle.wb_api.specs.Encoding.{is_plain, reply_text}
 use Rattle.wb_states.specs.declared.query.Query.{Query}
 use Rattle.wb_states.specs.declared.query.Query.TheVariants as query
 use Rattle.wb_api.specs.Responses.{IsFoundAnswer, command_response, found_response, IsRefusal, memory_response, refusal_response, reply_response, Response}
+use Rattle.wb_keys.specs.declared.access.Access.{Access}
 use Rattle.wb_lists.specs.Lists.{MayRead}
 use Rattle.wb_api.specs.Exchange.{EndsUnasked, ExchangesWith, IsCommandAnswer, IsQueryAnswer, LeadsOn, over_http}
 use Rattle.wb_api.specs.declared.request.Received.{Received}
@@ -229,11 +230,11 @@ found-leads is_clean is_closed stands_at leaves old new query (Err refusal) resp
 -- ---- what is no request
 
 -- what is written about what is no request is an exchange that leaves the office as it was
-pub unasked-exchanges : (may_read : MayRead) (got : Received) (machine : Machine) (old new : Option (List ℕ))
+pub unasked-exchanges : (access : Access) (may_read : MayRead) (got : Received) (machine : Machine) (old new : Option (List ℕ))
     (result : Served)
-    → EndsUnasked got machine old new result → ExchangesWith may_read got machine machine Open old new result
-unasked-exchanges may_read received.Nothing machine old new result ends = (refl, refl, ends.0, ends.1)
-unasked-exchanges may_read received.Failed machine old new result ends = (refl, refl, ends.0, ends.1)
-unasked-exchanges may_read received.Memory machine old new result ends = (refl, refl, ends)
-unasked-exchanges may_read (received.Refused fault) machine old new result ends = (refl, refl, ends)
-unasked-exchanges may_read (received.Asked asked) machine old new result ends = absurd ends
+    → EndsUnasked got machine old new result → ExchangesWith access may_read got machine machine Open old new result
+unasked-exchanges access may_read received.Nothing machine old new result ends = (refl, refl, ends.0, ends.1)
+unasked-exchanges access may_read received.Failed machine old new result ends = (refl, refl, ends.0, ends.1)
+unasked-exchanges access may_read received.Memory machine old new result ends = (refl, refl, ends)
+unasked-exchanges access may_read (received.Refused fault) machine old new result ends = (refl, refl, ends)
+unasked-exchanges access may_read (received.Asked shown asked) machine old new result ends = absurd ends

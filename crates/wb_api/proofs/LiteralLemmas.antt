@@ -7,11 +7,11 @@ use Rattle.wb_api.specs.Commands.{json_of, report_in, named_source_in}
 use Rattle.wb_streams.specs.Fields.{is_same_number, length_stated, limited}
 use Rattle.percent_encoding.specs.Percent.{percent_decode}
 use Rattle.wb_api.specs.Merges.{is_list_name, merge_in, merge_of, part_in}
-use Rattle.wb_api.specs.Requests.{body_asked, body_wanted, query_wanted}
+use Rattle.wb_api.specs.Requests.{body_asked, body_wanted, length_wanted, query_wanted}
 use Rattle.wb_api.specs.Routes.{decoded_text, query_of, route_at}
 
 unfoldable pub http_on_literals : ⊤
 unfolding digits chars is_utf8 add_arch_in add_builder_in attempted_in build_priority_in command_of enter_in json_of
-    report_in named_source_in is_same_number length_stated limited body_asked body_wanted query_wanted
-    percent_decode decoded_text query_of route_at is_list_name merge_in merge_of part_in
+    report_in named_source_in is_same_number length_stated limited body_asked body_wanted length_wanted
+    query_wanted percent_decode decoded_text query_of route_at is_list_name merge_in merge_of part_in
 http_on_literals = tt

@@ -22,6 +22,7 @@ use Rattle.wb_archive.specs.Readers.{IsMergeOf, IsMergeOfTexts, MayLeave, outcom
 use Rattle.wb_lists.specs.declared.lists.MergeLists.{MergeLists}
 use Rattle.wb_lists.specs.declared.names.MergeNames.{MergeNames}
 use Rattle.wb_lists.specs.declared.names.PartNames.{PartNames}
+use Rattle.wb_keys.specs.declared.access.Access.{Access}
 use Rattle.wb_lists.specs.Lists.{MayRead, MayReadLess, MayReadMerge, IsMergeAs, OpensMerge}
 use Rattle.wb_lists.proofs.ListLemmas.{LacksMerge-more, MayReadMerge-more}
 use Rattle.wb_lists.proofs.OpenedLemmas.{IsMergeAs-more, merge-command, opened-leaves, opened-merge}
@@ -260,13 +261,14 @@ module _ (old new : MayRead) (less : MayReadLess old new) where
       inr (h.0, asks-more asked h.0 h.1, h.2, h.3, h.4, h.5)
 
   -- what an exchange did by what lists may be read as later, it might do before
-  pub exchange-more : (came : Received) (before after : Machine) (standing : Standing) (from to : Option (List ℕ))
+  pub exchange-more : (access : Access) (came : Received) (before after : Machine) (standing : Standing) (from to : Option (List ℕ))
       (result : Served)
-      → ExchangesWith new came before after standing from to result
-      → ExchangesWith old came before after standing from to result
-  exchange-more received.Nothing before after standing from to result h = h
-  exchange-more received.Failed before after standing from to result h = h
-  exchange-more received.Memory before after standing from to result h = h
-  exchange-more (received.Refused fault) before after standing from to result h = h
-  exchange-more (received.Asked asked) before after standing from to result h =
-      responds-more asked before after standing from to result h
+      → ExchangesWith access new came before after standing from to result
+      → ExchangesWith access old came before after standing from to result
+  exchange-more access received.Nothing before after standing from to result h = h
+  exchange-more access received.Failed before after standing from to result h = h
+  exchange-more access received.Memory before after standing from to result h = h
+  exchange-more access (received.Refused fault) before after standing from to result h = h
+  exchange-more access (received.Asked shown asked) before after standing from to result (inl h) =
+      inl (h.0, responds-more asked before after standing from to result h.1)
+  exchange-more access (received.Asked shown asked) before after standing from to result (inr h) = inr h

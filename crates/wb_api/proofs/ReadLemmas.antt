@@ -1,5 +1,5 @@
 -- Lemmas on how much of the input was taken from the reader.
-use Rattle.std.proofs.Common.{◌≡◌, ◌⊎◌, inl, inr, sym, subst, ℕ, ◌+◌, ◌-◌, ◌≤◌, Bool, List, ◌++◌, length, drop}
+use Rattle.std.proofs.Common.{◌≡◌, ◌⊎◌, inl, inr, sym, subst, ℕ, ◌+◌, ◌-◌, ◌≤◌, List, ◌++◌, length, drop}
 use Rattle.std.proofs.Common.{Option, arith, length-append}
 use Rattle.std.specs.Io.KnownBytes.{Consumes}
 use Rattle.std.proofs.lemmas.Bool.{cases_lt}
@@ -8,6 +8,7 @@ use Rattle.wb_streams.specs.Bodies.{TookLess, TookNoMore}
 use Rattle.wb_streams.specs.Heads.{IsHeadAt, head_limit}
 use Rattle.wb_api.specs.Requests.{IsRequestFrontWith, IsWithinRequestWith, LacksMemoryWith, LacksRest, body_length}
 use Rattle.wb_api.specs.Requests.{wanted_of_with}
+use Rattle.wb_api.specs.declared.service.Service.{Service}
 use Rattle.wb_api.proofs.RequestLemmas.{IsHead-from}
 use Rattle.wb_streams.proofs.StreamLemmas.{Consumes-then}
 
@@ -19,44 +20,44 @@ missing_cases already taken wanted less = elim (cases_lt already wanted) [
 ]
 
 -- a head came, and then less than its body
-pub front_from : (has_lists : Bool) (old mid new : Option (List ℕ)) (seen : List ℕ) (count : ℕ) (head : RequestHead)
+pub front_from : (service : Service) (old mid new : Option (List ℕ)) (seen : List ℕ) (count : ℕ) (head : RequestHead)
     → Consumes old mid seen → length seen ≤ head_limit → IsHeadAt seen count head
-    → TookLess (drop count seen) (body_length (wanted_of_with has_lists head)) mid new
-    → (all : List ℕ) × Consumes old new all × IsRequestFrontWith has_lists all
-front_from has_lists old mid new seen count head p within at (taken, q, less) = (
+    → TookLess (drop count seen) (body_length (wanted_of_with service head)) mid new
+    → (all : List ℕ) × Consumes old new all × IsRequestFrontWith service all
+front_from service old mid new seen count head p within at (taken, q, less) = (
   seen ++ taken,
   Consumes-then old mid new seen taken p q,
   inr (head, drop count seen ++ taken, IsHead-from seen taken count head at within, less),
 )
 
 -- a head came, and then no more than its body
-pub within_from : (has_lists : Bool) (old mid new : Option (List ℕ)) (seen : List ℕ) (count : ℕ) (head : RequestHead)
+pub within_from : (service : Service) (old mid new : Option (List ℕ)) (seen : List ℕ) (count : ℕ) (head : RequestHead)
     → Consumes old mid seen → length seen ≤ head_limit → IsHeadAt seen count head
-    → TookNoMore (drop count seen) (body_length (wanted_of_with has_lists head)) mid new
-    → (all : List ℕ) × Consumes old new all × IsWithinRequestWith has_lists all
-within_from has_lists old mid new seen count head p within at (taken, q, less) =
+    → TookNoMore (drop count seen) (body_length (wanted_of_with service head)) mid new
+    → (all : List ℕ) × Consumes old new all × IsWithinRequestWith service all
+within_from service old mid new seen count head p within at (taken, q, less) =
     let rest : length (drop count seen ++ taken) ≡ length (drop count seen) + length taken = length-append (drop count seen) taken in
     let all : length (seen ++ taken) ≡ length seen + length taken = length-append seen taken in (
       seen ++ taken,
       Consumes-then old mid new seen taken p q,
-      elim (missing_cases (length (drop count seen)) (length taken) (body_length (wanted_of_with has_lists head)) less)
-          as (λ _. IsWithinRequestWith has_lists (seen ++ taken)) [
+      elim (missing_cases (length (drop count seen)) (length taken) (body_length (wanted_of_with service head)) less)
+          as (λ _. IsWithinRequestWith service (seen ++ taken)) [
             | inl fits ↦ inr (
               head,
               drop count seen ++ taken,
               IsHead-from seen taken count head at within,
-              subst (λ n. n ≤ body_length (wanted_of_with has_lists head)) (sym rest) fits,
+              subst (λ n. n ≤ body_length (wanted_of_with service head)) (sym rest) fits,
             )
             | inr none ↦ inl (omega arith)
           ],
     )
 
 -- a head came, and then memory ran out for the rest of the request
-pub lacks_from : (has_lists : Bool) (old mid new : Option (List ℕ)) (seen : List ℕ) (count : ℕ) (head : RequestHead)
+pub lacks_from : (service : Service) (old mid new : Option (List ℕ)) (seen : List ℕ) (count : ℕ) (head : RequestHead)
     → Consumes old mid seen → length seen ≤ head_limit → IsHeadAt seen count head
-    → ((taken : List ℕ) × Consumes mid new taken × LacksRest (wanted_of_with has_lists head) (drop count seen) taken)
-    → LacksMemoryWith has_lists old new
-lacks_from has_lists old mid new seen count head p within at (taken, q, lacks) = record {
+    → ((taken : List ℕ) × Consumes mid new taken × LacksRest (wanted_of_with service head) (drop count seen) taken)
+    → LacksMemoryWith service old new
+lacks_from service old mid new seen count head p within at (taken, q, lacks) = record {
   head = head;
   came = seen;
   already = drop count seen;

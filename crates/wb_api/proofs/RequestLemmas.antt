@@ -11,9 +11,13 @@ use Rattle.wb_streams.proofs.StreamLemmas.{Consumes-nil}
 use Rattle.wb_streams.specs.Fields.{NameAndValue}
 use Rattle.wb_streams.specs.Heads.{HasManyFields, IsHeadAt, IsMalformed, IsTooLarge, IsUnfinished, head_limit}
 use Rattle.wb_api.specs.Requests.{Answers, DecodesPath, IsHead, LacksRest, MeansWith, TakesMemory, WantsOr, asked_in}
-use Rattle.wb_api.specs.Requests.{asked_with, body_asked, query_wanted, wanted_from_with, wanted_of_with}
+use Rattle.wb_api.specs.Requests.{Shows, asked_with, body_asked, query_wanted, wanted_from_with, wanted_of_with}
+use Rattle.wb_api.specs.Rights.{shown_in}
 use Rattle.wb_api.specs.Routes.{and_then, decoded_text, part_at, query_about, query_of}
-use Rattle.wb_states.specs.declared.query.Query.{Query}
+use Rattle.wb_states.specs.declared.query.Query.{Query as AnyQuery}
+use Rattle.wb_keys.specs.Rights.{may_ask_for}
+use Rattle.wb_keys.specs.declared.right.Kind.TheVariants.{Query}
+use Rattle.wb_keys.specs.declared.right.Right.{Right}
 use Rattle.wb_states.specs.declared.query.Query.TheVariants as query
 use Rattle.wb_api.specs.declared.request.Wanted.TheVariants as wanted
 use Rattle.wb_streams.specs.declared.fault.Fault.{Fault}
@@ -27,19 +31,20 @@ use Rattle.wb_api.specs.declared.request.Received.{Received}
 use Rattle.wb_api.specs.declared.request.Received.TheVariants as received
 use Rattle.wb_api.specs.declared.request.Wanted.{Wanted}
 use Rattle.wb_api.specs.declared.route.BodyKind.{BodyKind}
+use Rattle.wb_api.specs.declared.service.Service.{Service}
 use Rattle.wb_api.specs.declared.route.QueryKind.{QueryKind}
 use Rattle.wb_api.specs.declared.route.QueryKind.TheVariants as query_kind
 
 -- what is wanted by the parts of a head is what the head wants
-pub wanted_same : (has_lists : Bool) (result : Result Wanted RequestError) (head other : RequestHead)
+pub wanted_same : (service : Service) (result : Result Wanted RequestError) (head other : RequestHead)
     (method target : List ℕ) (fields : List NameAndValue)
     → head ≡ other → method ≡ other.method → target ≡ other.target → fields ≡ map name_and_value other.fields
-    → WantsOr result (wanted_from_with has_lists method target fields) → WantsOr result (wanted_of_with has_lists head)
-wanted_same has_lists result head other method target fields same em et ef h =
-    let one = subst (λ m. WantsOr result (wanted_from_with has_lists m target fields)) em h in
-    let two = subst (λ t. WantsOr result (wanted_from_with has_lists other.method t fields)) et one in
-    let three = subst (λ f. WantsOr result (wanted_from_with has_lists other.method other.target f)) ef two in
-    subst (λ k. WantsOr result (wanted_of_with has_lists k)) (sym same) three
+    → WantsOr result (wanted_from_with service method target fields) → WantsOr result (wanted_of_with service head)
+wanted_same service result head other method target fields same em et ef h =
+    let one = subst (λ m. WantsOr result (wanted_from_with service m target fields)) em h in
+    let two = subst (λ t. WantsOr result (wanted_from_with service other.method t fields)) et one in
+    let three = subst (λ f. WantsOr result (wanted_from_with service other.method other.target f)) ef two in
+    subst (λ k. WantsOr result (wanted_of_with service k)) (sym same) three
 
 -- ---- queries
 
@@ -80,16 +85,17 @@ query-only kind target =
     about-only kind first (decoded_text (part_at target 4)) (text_fault (part_at target 4)))
 
 -- a query that could not be read is no wish, and memory ran out only while it was decoded
-wants-Err : (what : Result Query Fault) (error : RequestError) → OnlyBadPath what → GivesOr (Err error) what → WantsOr (Err error) (and_then what (λ q. Ok (wanted.Query q)))
+wants-Err : (what : Result AnyQuery Fault) (error : RequestError) → OnlyBadPath what → GivesOr (Err error) what → WantsOr (Err error) (and_then what (λ q. Ok (wanted.Query q)))
 wants-Err (Ok q) (error.Fault fault) only gives = absurd (let e = gives in cc)
 wants-Err (Ok q) error.Memory only gives = tt
 wants-Err (Err other) (error.Fault fault) only gives = let same : other ≡ fault = cc in ap Err same
 wants-Err (Err other) error.Memory only gives = only other refl
 
-pub query_wants : (kind : QueryKind) (method target : List ℕ) (failed : RequestError) → bytes_eq method (codes "GET") ≡ true
-    → GivesOr (Err failed) (query_of kind target) → WantsOr (Err failed) (query_wanted kind method target)
+pub query_wants : (rights : List Right) (kind : QueryKind) (method target : List ℕ) (failed : RequestError)
+    → bytes_eq method (codes "GET") ≡ true → may_ask_for rights Query ≡ true
+    → GivesOr (Err failed) (query_of kind target) → WantsOr (Err failed) (query_wanted rights kind method target)
 unfolding query_wanted
-query_wants kind method target failed get gives = rw get (wants-Err (query_of kind target) failed (query-only kind target) gives)
+query_wants rights kind method target failed get may gives = rw (get, may) (wants-Err (query_of kind target) failed (query-only kind target) gives)
 
 -- ---- bodies
 
@@ -165,29 +171,31 @@ IsHead-from seen left count head at within = record {
 }
 
 -- what follows a head is what the input asks for
-pub means_by : (has_lists : Bool) (input : List ℕ) (head : RequestHead) (rest : List ℕ) (result : Received)
-    → IsHead input head rest → (result ≡ received.Memory → TakesMemory (wanted_of_with has_lists head))
-    → Answers (asked_with has_lists head rest) result → MeansWith has_lists input result
-means_by has_lists input head rest received.Nothing is memory h = absurd h
-means_by has_lists input head rest received.Failed is memory h = tt
-means_by has_lists input head rest received.Memory is memory h = (head, rest, is, memory refl)
-means_by has_lists input head rest (received.Refused fault) is memory h = inl (head, rest, is, h)
-means_by has_lists input head rest (received.Asked asks) is memory h = (head, rest, is, h)
+pub means_by : (service : Service) (input : List ℕ) (head : RequestHead) (rest : List ℕ) (result : Received)
+    → IsHead input head rest → (result ≡ received.Memory → TakesMemory (wanted_of_with service head))
+    → Shows (shown_in head) result
+    → Answers (asked_with service head rest) result → MeansWith service input result
+means_by service input head rest received.Nothing is memory says h = absurd h
+means_by service input head rest received.Failed is memory says h = tt
+means_by service input head rest received.Memory is memory says h = (head, rest, is, memory refl)
+means_by service input head rest (received.Refused fault) is memory says h = inl (head, rest, is, h)
+means_by service input head rest (received.Asked shown asks) is memory says h = (head, rest, is, h, says)
 
 -- a head came, and what follows it is known
-pub means_head : (has_lists : Bool) (old new : Option (List ℕ)) (seen : List ℕ) (count : ℕ) (head : RequestHead)
+pub means_head : (service : Service) (old new : Option (List ℕ)) (seen : List ℕ) (count : ℕ) (head : RequestHead)
     (result : Received) → Consumes old new seen → length seen ≤ head_limit → IsHeadAt seen count head
     → ((result ≡ received.Memory) → (k : RequestHead) → IsHeadAt seen count k
-    → TakesMemory (wanted_of_with has_lists k))
+    → TakesMemory (wanted_of_with service k))
+    → ((k : RequestHead) → IsHeadAt seen count k → Shows (shown_in k) result)
     → IfSome new (λ left. (k : RequestHead) → IsHeadAt seen count k
-    → Answers (asked_with has_lists k (drop count seen ++ left)) result)
-    → IfSome old (λ input. MeansWith has_lists input result)
-means_head has_lists None new seen count head result p within at memory h = tt
-means_head has_lists (Some l) None seen count head result p within at memory h = absurd p
-means_head has_lists (Some l) (Some r) seen count head result p within at memory h =
-    subst (λ x. MeansWith has_lists x result) (sym p)
-    (means_by has_lists (seen ++ r) head (drop count seen ++ r) result (IsHead-from seen r count head at within)
-    (λ is. memory is head at) (h head at))
+    → Answers (asked_with service k (drop count seen ++ left)) result)
+    → IfSome old (λ input. MeansWith service input result)
+means_head service None new seen count head result p within at memory says h = tt
+means_head service (Some l) None seen count head result p within at memory says h = absurd p
+means_head service (Some l) (Some r) seen count head result p within at memory says h =
+    subst (λ x. MeansWith service x result) (sym p)
+    (means_by service (seen ++ r) head (drop count seen ++ r) result (IsHead-from seen r count head at within)
+    (λ is. memory is head at) (says head at) (h head at))
 
 pub NeverHasRequest-append : (xs ys : List ℕ) → NeverHasRequest xs → NeverHasRequest (xs ++ ys)
 NeverHasRequest-append xs ys never = λ more. subst HasNoRequest (sym (append_assoc xs ys more)) (never (ys ++ more))
@@ -199,19 +207,19 @@ front_of_seen seen left within =
     (take (head_limit - length seen) left, ap (λ n. take n (seen ++ left)) size ∙ take-append-add seen left (head_limit - length seen))
 
 -- an input that begins with no head
-pub means_malformed : (has_lists : Bool) (old new : Option (List ℕ)) (seen : List ℕ) → Consumes old new seen
+pub means_malformed : (service : Service) (old new : Option (List ℕ)) (seen : List ℕ) → Consumes old new seen
     → 0 < length seen → IsMalformed seen new
-    → IfSome old (λ input. MeansWith has_lists input (received.Refused BadHead))
-means_malformed has_lists None new seen p some bad = tt
-means_malformed has_lists (Some l) None seen p some bad = absurd p
-means_malformed has_lists (Some l) (Some r) seen p some (within, inl never) =
+    → IfSome old (λ input. MeansWith service input (received.Refused BadHead))
+means_malformed service None new seen p some bad = tt
+means_malformed service (Some l) None seen p some bad = absurd p
+means_malformed service (Some l) (Some r) seen p some (within, inl never) =
     let front = front_of_seen seen r within in
     let long : 0 < length (seen ++ r) = omega (arith, length-append seen r) in
-    subst (λ x. MeansWith has_lists x (received.Refused BadHead)) (sym p)
+    subst (λ x. MeansWith service x (received.Refused BadHead)) (sym p)
     (inr (inl (refl, (long, inl (subst NeverHasRequest (sym front.1) (NeverHasRequest-append seen front.0 never))))))
-means_malformed has_lists (Some l) (Some r) seen p some (within, inr (short, none, end)) =
+means_malformed service (Some l) (Some r) seen p some (within, inr (short, none, end)) =
     let all : l ≡ seen = p ∙ ap (λ x. seen ++ x) end ∙ append-nil seen in
-    subst (λ x. MeansWith has_lists x (received.Refused BadHead)) (sym all)
+    subst (λ x. MeansWith service x (received.Refused BadHead)) (sym all)
     (inr (inl (refl, (some, inr (short, none)))))
 
 pub HasManyFields-append : (xs ys : List ℕ) → HasManyFields xs → HasManyFields (xs ++ ys)
@@ -221,23 +229,23 @@ HasManyFields-append xs ys (over, exceeds) = (
 )
 
 -- an input whose head is too large
-pub means_large : (has_lists : Bool) (old new : Option (List ℕ)) (seen : List ℕ) → Consumes old new seen
+pub means_large : (service : Service) (old new : Option (List ℕ)) (seen : List ℕ) → Consumes old new seen
     → IsTooLarge seen
-    → IfSome old (λ input. MeansWith has_lists input (received.Refused HeadTooLarge))
-means_large has_lists None new seen p large = tt
-means_large has_lists (Some l) None seen p large = absurd p
-means_large has_lists (Some l) (Some r) seen p (within, inl (long, unfinished)) =
+    → IfSome old (λ input. MeansWith service input (received.Refused HeadTooLarge))
+means_large service None new seen p large = tt
+means_large service (Some l) None seen p large = absurd p
+means_large service (Some l) (Some r) seen p (within, inl (long, unfinished)) =
     let front : take head_limit (seen ++ r) ≡ seen = ap (λ n. take n (seen ++ r)) (sym long) ∙ take-append_seam seen r in
     let size : head_limit ≤ length (seen ++ r) = omega (arith, length-append seen r) in
-    subst (λ x. MeansWith has_lists x (received.Refused HeadTooLarge)) (sym p)
+    subst (λ x. MeansWith service x (received.Refused HeadTooLarge)) (sym p)
     (inr (inr (refl, inl (size, subst IsUnfinished (sym front) unfinished))))
-means_large has_lists (Some l) (Some r) seen p (within, inr many) =
-    subst (λ x. MeansWith has_lists x (received.Refused HeadTooLarge)) (sym p)
+means_large service (Some l) (Some r) seen p (within, inr many) =
+    subst (λ x. MeansWith service x (received.Refused HeadTooLarge)) (sym p)
     (inr (inr (refl, inr (HasManyFields-append seen r many))))
 
 -- an input without a byte
-pub means_nothing : (has_lists : Bool) (old new : Option (List ℕ)) → Consumes old new [] → IsAtEnd new
-    → IfSome old (λ input. MeansWith has_lists input received.Nothing)
-means_nothing has_lists None new p end = tt
-means_nothing has_lists (Some l) None p end = absurd p
-means_nothing has_lists (Some l) (Some r) p end = p ∙ end
+pub means_nothing : (service : Service) (old new : Option (List ℕ)) → Consumes old new [] → IsAtEnd new
+    → IfSome old (λ input. MeansWith service input received.Nothing)
+means_nothing service None new p end = tt
+means_nothing service (Some l) None p end = absurd p
+means_nothing service (Some l) (Some r) p end = p ∙ end

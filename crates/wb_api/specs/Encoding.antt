@@ -1,6 +1,6 @@
--- The JSON texts of what the office answers (RFC 8259), with their keys in byte order and no space.
--- A text is written here piece by piece, as it stands in the output: `decimal` gives a number's digits, `quoted` a text between
--- quotation marks with JSON's shortest escapes, and `concat` the pieces one after the other.
+-- The JSON texts of what the office answers (RFC 8259), with their keys in byte order and no space. A text is written
+-- here piece by piece, as it stands in the output: `decimal` gives a number's digits, `quoted` a text between quotation
+-- marks with JSON's shortest escapes, and `concat` the pieces one after the other.
 use Rattle.std.specs.Prelude.{◌≡◌, ℕ, Bool, true, false, List, [], ◌∷◌, ◌++◌, map, Option, None, Some, codes, decimal}
 use Prim.Native.Char.{code}
 use Rattle.std.specs.List.{concat, join_with_byte}
@@ -100,7 +100,8 @@ part_text part = end_text part.arch part.end
 abbrev pub parts_text : List PartReply → List ℕ
 parts_text parts = join_with_byte (code ",") (map part_text parts)
 
--- the text of a reply to the command of this name, which is the value of `ok` unless the reply repeats what the builder has
+-- the text of a reply to the command of this name, which is the value of `ok` unless the reply repeats what the builder
+-- has
 unfoldable pub reply_text : List ℕ → Reply → List ℕ
 reply_text name (Done accepted) = concat
     (codes "{\"accepted\":" ∷ decimal accepted ∷

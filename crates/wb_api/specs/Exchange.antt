@@ -16,9 +16,13 @@ use Rattle.wb_api.specs.Responses.{Form, IsMergeResponse, IsRefusedByStore, Resp
 use Rattle.wb_api.specs.Responses.{command_response, memory_response, query_response}
 use Rattle.wb_streams.specs.Answers.{answer_bytes, fault_text, status_of_fault}
 use Rattle.wb_streams.specs.Streams.{AppendsFront}
-use Rattle.wb_api.specs.Requests.{IsRequestFrontWith, IsWithinRequestWith, LacksMemoryWith, MeansWith, is_failed}
+use Rattle.wb_keys.specs.Access.{everybody}
+use Rattle.wb_keys.specs.declared.access.Access.{Access}
+use Rattle.wb_keys.specs.declared.access.Shown.{Shown}
+use Rattle.wb_api.specs.Requests.{IsRequestFrontWith, IsWithinRequestWith, LacksMemoryWith, MeansWith, is_failed, plain}
+use Rattle.wb_api.specs.Rights.{LooksUp, is_allowed}
 use Rattle.wb_streams.specs.declared.fault.Fault.{Fault}
-use Rattle.wb_streams.specs.declared.fault.Fault.TheVariants.{NoList}
+use Rattle.wb_streams.specs.declared.fault.Fault.TheVariants.{NoList, NotAllowed}
 use Rattle.wb_api.specs.declared.request.Received.{Received}
 use Rattle.wb_api.specs.declared.request.Received.TheVariants as received
 use Rattle.wb_api.specs.declared.request.Request.{Request}
@@ -26,7 +30,9 @@ use Rattle.wb_api.specs.declared.request.Request.TheVariants as request
 use Rattle.wb_states.specs.declared.query.Query.{Query}
 use Rattle.wb_streams.specs.Streams.{Flags, Stream}
 use Rattle.wb_api.specs.declared.answer.HttpAnswer.{HttpAnswer}
+use Rattle.wb_api.specs.declared.serve.KeyedRequest.{KeyedRequest}
 use Rattle.wb_api.specs.declared.serve.Served.{Served}
+use Rattle.wb_api.specs.declared.service.Service.{Service}
 use Rattle.wb_api.specs.declared.serve.Served.TheVariants as served
 
 -- an answer as a response, with the state of the office after it
@@ -77,7 +83,8 @@ IsCommandAnswer machine command response standing =
     ⊎ (MayLackMemory machine command × (response ≡ memory_response over_http machine))) × (standing ≡ Open))
     ⊎ IsRefusedByStore over_http machine (InDoubt command) response standing
 
--- what may be answered to a query: what was found or its refusal, or that there is no memory for it, if no name in it is malformed
+-- what may be answered to a query: what was found or its refusal, or that there is no memory for it, if no name in it
+-- is malformed
 abbrev pub IsQueryAnswer : Machine → Query → Response → Standing → Type 0
 IsQueryAnswer machine query response standing =
     (((response ≡ query_response over_http machine query)
@@ -106,6 +113,15 @@ IsAnswerWith may_read machine (request.Merge names) response standing =
 -- what may be answered to a request, without lists
 abbrev pub IsAnswer : Machine → Request → Response → Standing → Type 0
 IsAnswer machine asked response standing = IsAnswerWith no_lists machine asked response standing
+
+-- what is answered to a request of who shows this of a key in place of the office's answer: that it is not allowed; or,
+-- if that depends on who holds a take number, that this was not found out
+abbrev pub IsNotAllowed : Access → Shown → Machine → Request → Response → Standing → Type 0
+IsNotAllowed access shown machine asked response standing =
+    ((is_allowed access shown machine asked ≡ false) × (response ≡ fault_response machine NotAllowed)
+    × (standing ≡ Open))
+    ⊎ (LooksUp access shown asked × (((response ≡ memory_response over_http machine) × (standing ≡ Open))
+    ⊎ IsRefusedByStore over_http machine Failed response standing))
 
 -- a request asks for this command: it is the command, or the merge that the lists which it names may be read as
 abbrev pub AsksFor : MayRead → Request → Command → Type 0
@@ -140,24 +156,35 @@ RespondsWith may_read asked before after standing old new result =
 abbrev pub Responds : Request → Machine → Machine → Standing → Option (List ℕ) → Option (List ℕ) → Served → Type 0
 Responds asked before after standing old new result = RespondsWith no_lists asked before after standing old new result
 
--- what an exchange did about what was received, by what lists may be read as: only a request has the office do anything
-abbrev pub ExchangesWith : MayRead → Received → Machine → Machine → Standing → Option (List ℕ) → Option (List ℕ)
-    → Served → Type 0
-ExchangesWith may_read received.Nothing before after standing old new result =
-    (after ≡ before) × (standing ≡ Open) × (new ≡ old) × (result ≡ served.Nothing)
-ExchangesWith may_read received.Failed before after standing old new result =
-    (after ≡ before) × (standing ≡ Open) × (new ≡ old) × (result ≡ served.ReadFailed)
-ExchangesWith may_read received.Memory before after standing old new result =
-    (after ≡ before) × (standing ≡ Open) × Sends (memory_response over_http before) old new result
-ExchangesWith may_read (received.Refused fault) before after standing old new result =
-    (after ≡ before) × (standing ≡ Open) × Sends (fault_response before fault) old new result
-ExchangesWith may_read (received.Asked asked) before after standing old new result =
-    RespondsWith may_read asked before after standing old new result
+-- what was done about a request of who shows this of a key: it is allowed, and was answered; or it was refused, and the
+-- office is as it was
+abbrev pub RespondsTo : Access → MayRead → Shown → Request → Machine → Machine → Standing → Option (List ℕ)
+    → Option (List ℕ) → Served → Type 0
+RespondsTo access may_read shown asked before after standing old new result =
+    ((is_allowed access shown before asked ≡ true)
+    × RespondsWith may_read asked before after standing old new result)
+    ⊎ ((after ≡ before) × (response : Response) × IsNotAllowed access shown before asked response standing
+    × Sends response old new result)
 
--- what an exchange did about what was received, without lists
+-- what an exchange did about what was received, by who may ask for what and what lists may be read as: only a request
+-- has the office do anything
+abbrev pub ExchangesWith : Access → MayRead → Received → Machine → Machine → Standing → Option (List ℕ)
+    → Option (List ℕ) → Served → Type 0
+ExchangesWith access may_read received.Nothing before after standing old new result =
+    (after ≡ before) × (standing ≡ Open) × (new ≡ old) × (result ≡ served.Nothing)
+ExchangesWith access may_read received.Failed before after standing old new result =
+    (after ≡ before) × (standing ≡ Open) × (new ≡ old) × (result ≡ served.ReadFailed)
+ExchangesWith access may_read received.Memory before after standing old new result =
+    (after ≡ before) × (standing ≡ Open) × Sends (memory_response over_http before) old new result
+ExchangesWith access may_read (received.Refused fault) before after standing old new result =
+    (after ≡ before) × (standing ≡ Open) × Sends (fault_response before fault) old new result
+ExchangesWith access may_read (received.Asked shown asked) before after standing old new result =
+    RespondsTo access may_read shown asked before after standing old new result
+
+-- what an exchange did about what was received, without lists and keys
 abbrev pub Exchanges : Received → Machine → Machine → Standing → Option (List ℕ) → Option (List ℕ) → Served → Type 0
 Exchanges received before after standing old new result =
-    ExchangesWith no_lists received before after standing old new result
+    ExchangesWith everybody no_lists received before after standing old new result
 
 -- whether a request was received
 abbrev pub is_asked : Received → Bool
@@ -165,29 +192,37 @@ is_asked received.Nothing = false
 is_asked received.Failed = false
 is_asked received.Memory = false
 is_asked (received.Refused fault) = false
-is_asked (received.Asked request) = true
+is_asked (received.Asked shown request) = true
 
--- whether a merge was received, for which lists are opened
+-- whether a request is a merge, for which lists are opened
+abbrev pub asks_merge : Request → Bool
+asks_merge (request.Command command) = false
+asks_merge (request.Query query) = false
+asks_merge (request.Merge names) = true
+
+-- whether a merge was received
 abbrev pub is_merge : Received → Bool
-is_merge (received.Asked (request.Merge names)) = true
-is_merge came = false
+is_merge received.Nothing = false
+is_merge received.Failed = false
+is_merge received.Memory = false
+is_merge (received.Refused fault) = false
+is_merge (received.Asked shown asked) = asks_merge asked
 
--- what was received is what the bytes of the reader mean, if they are known, where lists are served or not; the flag of
--- the reader is set if the reader failed,
--- and then what was read before was the front of a request, and not all of one; no more is read than a request, with
--- what the reads of its head may take; and
--- memory ran out only for a path, for a body of which nothing more was read, or for a body that is a text
-pub record ReceivesWith (has_lists : Bool) (old new : Stream) (came : Received) : Type 0 where
-  pub value : IfSome old.bytes (λ input. MeansWith has_lists input came)
+-- what was received is what the bytes of the reader mean to this service, if they are known; the flag of the reader is
+-- set if the reader failed, and then what was read before was the front of a request, and not all of one; no more is
+-- read than a request, with what the reads of its head may take; and memory ran out only for a path, for a body of
+-- which nothing more was read, or for a body that is a text
+pub record ReceivesWith (service : Service) (old new : Stream) (came : Received) : Type 0 where
+  pub value : IfSome old.bytes (λ input. MeansWith service input came)
   pub failed : Flags (is_failed came) old new
   pub front : came ≡ received.Failed → (seen : List ℕ) × Consumes old.bytes new.bytes seen
-      × IsRequestFrontWith has_lists seen
-  pub bound : (seen : List ℕ) × Consumes old.bytes new.bytes seen × IsWithinRequestWith has_lists seen
-  pub memory : came ≡ received.Memory → LacksMemoryWith has_lists old.bytes new.bytes
+      × IsRequestFrontWith service seen
+  pub bound : (seen : List ℕ) × Consumes old.bytes new.bytes seen × IsWithinRequestWith service seen
+  pub memory : came ≡ received.Memory → LacksMemoryWith service old.bytes new.bytes
 
--- what was received is what the bytes of the reader mean, without lists
+-- what was received is what the bytes of the reader mean, without lists and keys
 abbrev pub Receives : Stream → Stream → Received → Type 0
-Receives old new came = ReceivesWith false old new came
+Receives old new came = ReceivesWith plain old new came
 
 -- what was written about what was received, in this state of the office, if it is no request
 abbrev pub EndsUnasked : Received → Machine → Option (List ℕ) → Option (List ℕ) → Served → Type 0
@@ -195,11 +230,11 @@ EndsUnasked received.Nothing machine old new result = (new ≡ old) × (result �
 EndsUnasked received.Failed machine old new result = (new ≡ old) × (result ≡ served.ReadFailed)
 EndsUnasked received.Memory machine old new result = Sends (memory_response over_http machine) old new result
 EndsUnasked (received.Refused fault) machine old new result = Sends (fault_response machine fault) old new result
-EndsUnasked (received.Asked asked) machine old new result = ⊥
+EndsUnasked (received.Asked shown asked) machine old new result = ⊥
 
 -- a request was received, and nothing was written; or something else, and the exchange ended so
-abbrev pub Begins : Received → Stream → Stream → Result Request Served → Type 0
-Begins came old new (Ok asked) = (came ≡ received.Asked asked) × (new ≡ old)
+abbrev pub Begins : Received → Stream → Stream → Result KeyedRequest Served → Type 0
+Begins came old new (Ok asked) = (came ≡ received.Asked asked.shown asked.request) × (new ≡ old)
 Begins came old new (Err result) = (machine : Machine) → EndsUnasked came machine old.bytes new.bytes result
 
 -- whether an exchange ended without an answer

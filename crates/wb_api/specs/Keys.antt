@@ -1,5 +1,5 @@
--- The keys of the objects of commands (RFC 8259): one table for the body of a request, which is read by it, and for the line of a journal, which has these and the
--- name of the command.
+-- The keys of the objects of commands (RFC 8259): one table for the body of a request, which is read by it, and for the
+-- line of a journal, which has these and the name of the command.
 use Rattle.std.specs.Prelude.{ℕ, List, [], ◌∷◌, ◌++◌, Bool, true, ◌&&◌, is_some, codes}
 use Rattle.serde_json.specs.Data.{Data, Members, member, no_members, null, object, put, array, boolean, number, string}
 use Rattle.wb_api.specs.Commands.{integer_in, number_in, number_or_none_in, text_in}

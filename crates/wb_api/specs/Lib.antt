@@ -6,10 +6,12 @@ pub mod Keys
 pub mod Memory
 pub mod Merges
 pub mod Outcomes
+pub mod Own
 pub mod Queries
 pub mod QueryValues
 pub mod Requests
 pub mod Responses
+pub mod Rights
 pub mod Routes
 pub mod Runs
 pub mod Values

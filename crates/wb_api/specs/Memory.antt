@@ -7,7 +7,8 @@ use Rattle.wb_step.specs.Checks.{MayWantMemory}
 use Rattle.wb_step.specs.Step.{step}
 use Rattle.wb_api.specs.Encoding.{is_plain}
 
--- a command whose answer may be that memory ran out: it may need memory, or its refusal has more than a number and a name, or its reply repeats an assignment
+-- a command whose answer may be that memory ran out: it may need memory, or its refusal has more than a number and a
+-- name, or its reply repeats an assignment
 abbrev pub MayLackMemory : Machine → Command → Type 0
 MayLackMemory machine command =
     (MayWantMemory command

@@ -101,8 +101,9 @@ pair_text pair = concat
 unfoldable pub pairs_text : List Key → List ℕ
 pairs_text = join_by pair_text (codes ",")
 
--- the text of the answer to a query: a queue, the records in a state, a record, the records that a builder holds, what a source package needs to
--- be built, how many records are in each state, the two counts of the office, its architectures, or its builders
+-- the text of the answer to a query: a queue, the records in a state, a record, the records that a builder holds, what
+-- a source package needs to be built, how many records are in each state, the two counts of the office, its
+-- architectures, or its builders
 unfoldable pub query_text : Answer → List ℕ
 query_text (Queue arch rows) = concat
     (codes "{\"arch\":" ∷ quoted arch ∷

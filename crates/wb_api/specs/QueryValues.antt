@@ -1,4 +1,5 @@
--- The JSON values of records and of counts, whose texts stand in the answers to queries (RFC 8259), before they are printed.
+-- The JSON values of records and of counts, whose texts stand in the answers to queries (RFC 8259), before they are
+-- printed.
 use Rattle.std.specs.Prelude.{ℕ, List, Option, None, Some, codes}
 use Rattle.serde_json.specs.Data.{Data, null, boolean, number, unsigned, string, object, Members, member, no_members, put}
 use Rattle.serde_json.specs.Find.{of_integer}

@@ -7,11 +7,18 @@ use Rattle.httparse.specs.Grammar.{Field, HasNoRequest, NeverHasRequest, ReadsRe
 use Rattle.httparse.specs.Spans.{name_and_value}
 use Rattle.wb_api.specs.Commands.{IsText, command_of}
 use Rattle.wb_api.specs.Merges.{merge_of}
+use Rattle.wb_keys.specs.Access.{everybody, rights_of}
+use Rattle.wb_keys.specs.Rights.{may_ask_for}
+use Rattle.wb_keys.specs.declared.access.Shown.{Shown}
+use Rattle.wb_keys.specs.declared.right.Kind.TheVariants.{Query}
+use Rattle.wb_keys.specs.declared.right.Right.{Right}
 use Rattle.wb_streams.specs.Fields.{NameAndValue, content_length, has_field, is_from_browser, length_stated, values_of}
 use Rattle.wb_streams.specs.Heads.{HasManyFields, IsHeadFront, IsUnfinished, field_limit, head_limit}
+use Rattle.wb_api.specs.Rights.{kind_of_body, shown_by, shown_in}
 use Rattle.wb_api.specs.Routes.{and_then, query_of, route_at}
 use Rattle.wb_streams.specs.declared.fault.Fault.{Fault}
-use Rattle.wb_streams.specs.declared.fault.Fault.TheVariants.{BadHead, BadPath, FromBrowser, HeadTooLarge, NoRoute, WrongMethod, NotSupported, BodyCut}
+use Rattle.wb_streams.specs.declared.fault.Fault.TheVariants.{BadHead, BadPath, FromBrowser, HeadTooLarge, NoKey, NoRoute, NotAllowed}
+use Rattle.wb_streams.specs.declared.fault.Fault.TheVariants.{WrongMethod, NotSupported, BodyCut}
 use Rattle.wb_api.specs.declared.failure.RequestError.{RequestError}
 use Rattle.wb_api.specs.declared.failure.RequestError.TheVariants as error
 use Rattle.wb_api.specs.declared.request.Received.{Received}
@@ -24,41 +31,66 @@ use Rattle.wb_api.specs.declared.route.BodyKind.{BodyKind}
 use Rattle.wb_api.specs.declared.route.BodyKind.TheVariants as body_kind
 use Rattle.wb_api.specs.declared.route.QueryKind.{QueryKind}
 use Rattle.wb_api.specs.declared.route.Route.{Route}
+use Rattle.wb_api.specs.declared.service.Service.{Service}
 use Rattle.wb_api.specs.declared.route.Route.TheVariants as route
 
--- what the head of a command or a merge asks for: a body of the length that its fields state (RFC 9112, section 6)
-unfoldable pub body_wanted : BodyKind → List ℕ → List NameAndValue → Result Wanted Fault
-body_wanted kind method fields = if bytes_eq method (codes "POST")
-    then (if has_field (codes "transfer-encoding") fields then Err NotSupported
-    else and_then (length_stated (values_of content_length fields)) (λ n. Ok (wanted.Body kind n)))
+-- what is served without lists and without keys
+abbrev pub plain : Service
+plain = record { has_lists = false; access = everybody }
+
+-- what is served with lists and without keys
+abbrev pub beside_lists : Service
+beside_lists = record { has_lists = true; access = everybody }
+
+-- the length of the body that the fields of a command or a merge state (RFC 9112, section 6)
+unfoldable pub length_wanted : BodyKind → List NameAndValue → Result Wanted Fault
+length_wanted kind fields = if has_field (codes "transfer-encoding") fields then Err NotSupported
+    else and_then (length_stated (values_of content_length fields)) (λ n. Ok (wanted.Body kind n))
+
+-- what the head of a command or a merge asks for, by a line with these rights: a body of the length that its fields
+-- state
+unfoldable pub body_wanted : List Right → BodyKind → List ℕ → List NameAndValue → Result Wanted Fault
+body_wanted rights kind method fields = if bytes_eq method (codes "POST")
+    then (if may_ask_for rights (kind_of_body kind) then length_wanted kind fields else Err NotAllowed)
     else Err WrongMethod
 
--- what the head of a query asks for
-unfoldable pub query_wanted : QueryKind → List ℕ → List ℕ → Result Wanted Fault
-query_wanted kind method target = if bytes_eq method (codes "GET")
-    then and_then (query_of kind target) (λ query. Ok (wanted.Query query)) else Err WrongMethod
+-- what the head of a query asks for, by a line with these rights
+unfoldable pub query_wanted : List Right → QueryKind → List ℕ → List ℕ → Result Wanted Fault
+query_wanted rights kind method target = if bytes_eq method (codes "GET")
+    then (if may_ask_for rights Query then and_then (query_of kind target) (λ query. Ok (wanted.Query query))
+    else Err NotAllowed)
+    else Err WrongMethod
 
--- what a head asks for whose target is for this, or for nothing: without lists a merge is for nothing
-abbrev pub wanted_by_with : Bool → Option Route → List ℕ → List ℕ → List NameAndValue → Result Wanted Fault
-wanted_by_with has_lists None method target fields = Err NoRoute
-wanted_by_with has_lists (Some (route.Command kind)) method target fields =
-    body_wanted (body_kind.Command kind) method fields
-wanted_by_with has_lists (Some (route.Query kind)) method target fields = query_wanted kind method target
-wanted_by_with has_lists (Some route.Merge) method target fields =
-    if has_lists then body_wanted body_kind.Merge method fields else Err NoRoute
+-- what a head asks for whose target is for this, or for nothing, by a line with these rights: without lists a merge is
+-- for nothing
+abbrev pub wanted_by_with : Bool → List Right → Option Route → List ℕ → List ℕ → List NameAndValue
+    → Result Wanted Fault
+wanted_by_with has_lists rights None method target fields = Err NoRoute
+wanted_by_with has_lists rights (Some (route.Command kind)) method target fields =
+    body_wanted rights (body_kind.Command kind) method fields
+wanted_by_with has_lists rights (Some (route.Query kind)) method target fields =
+    query_wanted rights kind method target
+wanted_by_with has_lists rights (Some route.Merge) method target fields =
+    if has_lists then body_wanted rights body_kind.Merge method fields else Err NoRoute
 
--- what a head of this method, target and fields asks for, with lists or without: nothing, if a web page had it sent
-abbrev pub wanted_from_with : Bool → List ℕ → List ℕ → List NameAndValue → Result Wanted Fault
-wanted_from_with has_lists method target fields =
-    if is_from_browser fields then Err FromBrowser else wanted_by_with has_lists (route_at target) method target fields
+-- what a head of this method, target and fields asks for, by the rights of its line: nothing, if it is on none
+abbrev pub wanted_for : Bool → Option (List Right) → List ℕ → List ℕ → List NameAndValue → Result Wanted Fault
+wanted_for has_lists None method target fields = Err NoKey
+wanted_for has_lists (Some rights) method target fields =
+    wanted_by_with has_lists rights (route_at target) method target fields
 
--- what a head asks for, with lists or without
-abbrev pub wanted_of_with : Bool → RequestHead → Result Wanted Fault
-wanted_of_with has_lists head = wanted_from_with has_lists head.method head.target (map name_and_value head.fields)
+-- what a head of this method, target and fields asks for: nothing, if a web page had it sent
+abbrev pub wanted_from_with : Service → List ℕ → List ℕ → List NameAndValue → Result Wanted Fault
+wanted_from_with service method target fields = if is_from_browser fields then Err FromBrowser
+    else wanted_for service.has_lists (rights_of service.access (shown_by fields)) method target fields
 
--- what a head asks for, without lists
+-- what a head asks for, of this service
+abbrev pub wanted_of_with : Service → RequestHead → Result Wanted Fault
+wanted_of_with service head = wanted_from_with service head.method head.target (map name_and_value head.fields)
+
+-- what a head asks for, without lists and keys
 abbrev pub wanted_of : RequestHead → Result Wanted Fault
-wanted_of head = wanted_of_with false head
+wanted_of head = wanted_of_with plain head
 
 -- a head for which memory is taken: one without a fault, or one whose path is decoded before its fault is found
 abbrev pub TakesMemory : Result Wanted Fault → Type 0
@@ -91,13 +123,13 @@ abbrev pub asked_by : Wanted → List ℕ → Result Request Fault
 asked_by (wanted.Query query) rest = Ok (request.Query query)
 asked_by (wanted.Body kind count) rest = body_asked kind count rest
 
--- what a head and what follows it ask for, with lists or without
-abbrev pub asked_with : Bool → RequestHead → List ℕ → Result Request Fault
-asked_with has_lists head rest = and_then (wanted_of_with has_lists head) (λ w. asked_by w rest)
+-- what a head and what follows it ask for, of this service
+abbrev pub asked_with : Service → RequestHead → List ℕ → Result Request Fault
+asked_with service head rest = and_then (wanted_of_with service head) (λ w. asked_by w rest)
 
--- what a head and what follows it ask for, without lists
+-- what a head and what follows it ask for, without lists and keys
 abbrev pub asked : RequestHead → List ℕ → Result Request Fault
-asked head rest = asked_with false head rest
+asked head rest = asked_with plain head rest
 
 -- a field of this name and value, as a client writes it
 abbrev pub field : List ℕ → List ℕ → Field
@@ -133,7 +165,7 @@ posted target body = posted_with [] target body
 
 -- what a POST with this target and this body asks for, with lists, and the length of the body as its only field
 abbrev pub posted_beside_lists : List ℕ → List ℕ → Result Request Fault
-posted_beside_lists target body = asked_with true (head_of (codes "POST") target (length_field body ∷ [])) body
+posted_beside_lists target body = asked_with beside_lists (head_of (codes "POST") target (length_field body ∷ [])) body
 
 -- what a GET asks for with this target and these fields
 abbrev pub got_with : List Field → List ℕ → Result Request Fault
@@ -168,26 +200,37 @@ Answers what received.Nothing = ⊥
 Answers what received.Failed = ⊤
 Answers what received.Memory = ⊤
 Answers what (received.Refused fault) = what ≡ Err fault
-Answers what (received.Asked request) = what ≡ Ok request
+Answers what (received.Asked shown request) = what ≡ Ok request
 
--- what is received of an input, with lists or without: nothing only if it is empty, else what its head and what follows
--- ask for, or the fault of a head; memory ran out only after a head for which memory is taken
-abbrev pub MeansWith : Bool → List ℕ → Received → Type 0
-MeansWith has_lists input received.Nothing = input ≡ []
-MeansWith has_lists input received.Failed = ⊤
-MeansWith has_lists input received.Memory =
-    (head : RequestHead) × (rest : List ℕ) × IsHead input head rest × TakesMemory (wanted_of_with has_lists head)
-MeansWith has_lists input (received.Refused fault) =
-    ((head : RequestHead) × (rest : List ℕ) × IsHead input head rest × (asked_with has_lists head rest ≡ Err fault))
+-- what is received says this of a key, if it is a request
+abbrev pub Shows : Shown → Received → Type 0
+Shows said received.Nothing = ⊤
+Shows said received.Failed = ⊤
+Shows said received.Memory = ⊤
+Shows said (received.Refused fault) = ⊤
+Shows said (received.Asked shown request) = shown ≡ said
+
+-- what is received of an input: nothing only if it is empty, else what its head and what follows ask for of this
+-- service, and what the head shows of a key, or the fault of a head; memory ran out only after a head for which memory
+-- is taken
+abbrev pub MeansWith : Service → List ℕ → Received → Type 0
+MeansWith service input received.Nothing = input ≡ []
+MeansWith service input received.Failed = ⊤
+MeansWith service input received.Memory =
+    (head : RequestHead) × (rest : List ℕ) × IsHead input head rest × TakesMemory (wanted_of_with service head)
+MeansWith service input (received.Refused fault) =
+    ((head : RequestHead) × (rest : List ℕ) × IsHead input head rest × (asked_with service head rest ≡ Err fault))
     ⊎ HasHeadFault input fault
-MeansWith has_lists input (received.Asked request) =
-    (head : RequestHead) × (rest : List ℕ) × IsHead input head rest × (asked_with has_lists head rest ≡ Ok request)
+MeansWith service input (received.Asked shown request) =
+    (head : RequestHead) × (rest : List ℕ) × IsHead input head rest × (asked_with service head rest ≡ Ok request)
+    × (shown ≡ shown_in head)
 
--- what is received of an input, without lists
+-- what is received of an input, without lists and keys
 abbrev pub Means : List ℕ → Received → Type 0
-Means input received = MeansWith false input received
+Means input received = MeansWith plain input received
 
--- what was taken of a body of so many bytes if memory ran out for it, of which some came already: nothing, though some is missing, or all of it, which is a text
+-- what was taken of a body of so many bytes if memory ran out for it, of which some came already: nothing, though some
+-- is missing, or all of it, which is a text
 abbrev pub LacksBody : ℕ → List ℕ → List ℕ → Type 0
 LacksBody count already taken = ((taken ≡ []) × (length already < count))
     ⊎ ((count ≤ length (already ++ taken)) × IsText (take count (already ++ taken)))
@@ -198,9 +241,9 @@ LacksRest (Ok (wanted.Query query)) already taken = taken ≡ []
 LacksRest (Ok (wanted.Body kind count)) already taken = LacksBody count already taken
 LacksRest (Err fault) already taken = (fault ≡ BadPath) × (taken ≡ [])
 
--- what was read of a request if memory ran out for it, with lists or without: its head, with what came with it, and of
--- the rest of the request nothing, or a body that is a text
-pub record LacksMemoryWith (has_lists : Bool) (old new : Option (List ℕ)) : Type 0 where
+-- what was read of a request if memory ran out for it: its head, with what came with it, and of the rest of the request
+-- nothing, or a body that is a text
+pub record LacksMemoryWith (service : Service) (old new : Option (List ℕ)) : Type 0 where
   pub head : RequestHead
   pub came : List ℕ
   pub already : List ℕ
@@ -208,7 +251,7 @@ pub record LacksMemoryWith (has_lists : Bool) (old new : Option (List ℕ)) : Ty
   pub reads : Consumes old new (came ++ taken)
   pub within : length came ≤ head_limit
   pub is : IsHead came head already
-  pub lacks : LacksRest (wanted_of_with has_lists head) already taken
+  pub lacks : LacksRest (wanted_of_with service head) already taken
 
 -- how many bytes of a body a head asks for: none unless it is a command or a merge without a fault
 abbrev pub body_length : Result Wanted Fault → ℕ
@@ -216,17 +259,17 @@ body_length (Ok (wanted.Query query)) = 0
 body_length (Ok (wanted.Body kind count)) = count
 body_length (Err fault) = 0
 
--- the front of a request, and not all of one, with lists or without: the front of a head, or a head within the limits
--- and less than the body that it asks for
-abbrev pub IsRequestFrontWith : Bool → List ℕ → Type 0
-IsRequestFrontWith has_lists seen = IsHeadFront seen ⊎ ((head : RequestHead) × (rest : List ℕ)
-    × IsHead seen head rest × (length rest < body_length (wanted_of_with has_lists head)))
+-- the front of a request, and not all of one: the front of a head, or a head within the limits and less than the body
+-- that it asks for of this service
+abbrev pub IsRequestFrontWith : Service → List ℕ → Type 0
+IsRequestFrontWith service seen = IsHeadFront seen ⊎ ((head : RequestHead) × (rest : List ℕ)
+    × IsHead seen head rest × (length rest < body_length (wanted_of_with service head)))
 
--- no more bytes than a head may have, or a head within the limits and no more than the body that it asks for, with
--- lists or without
-abbrev pub IsWithinRequestWith : Bool → List ℕ → Type 0
-IsWithinRequestWith has_lists seen = (length seen ≤ head_limit) ⊎ ((head : RequestHead) × (rest : List ℕ)
-    × IsHead seen head rest × (length rest ≤ body_length (wanted_of_with has_lists head)))
+-- no more bytes than a head may have, or a head within the limits and no more than the body that it asks for of this
+-- service
+abbrev pub IsWithinRequestWith : Service → List ℕ → Type 0
+IsWithinRequestWith service seen = (length seen ≤ head_limit) ⊎ ((head : RequestHead) × (rest : List ℕ)
+    × IsHead seen head rest × (length rest ≤ body_length (wanted_of_with service head)))
 
 -- whether the reader failed
 abbrev pub is_failed : Received → Bool
@@ -234,4 +277,4 @@ is_failed received.Nothing = false
 is_failed received.Failed = true
 is_failed received.Memory = false
 is_failed (received.Refused fault) = false
-is_failed (received.Asked request) = false
+is_failed (received.Asked shown request) = false

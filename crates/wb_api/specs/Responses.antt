@@ -17,7 +17,8 @@ use Rattle.wb_lists.specs.declared.names.PartNames.{PartNames}
 use Rattle.wb_api.specs.Encoding.{is_plain, memory_text, refusal_text, reply_text}
 use Rattle.wb_api.specs.Queries.{query_text}
 
--- a form of answers: the status of what is accepted or found, that of each refusal, and the bytes in which a text is written
+-- a form of answers: the status of what is accepted or found, that of each refusal, and the bytes in which a text is
+-- written
 pub record Form : Type 0 where
   pub accepted : ℕ
   pub refused : Refusal → ℕ
@@ -68,14 +69,15 @@ abbrev pub IsRefusal : Form → Machine → Refusal → Response → Type 0
 IsRefusal form machine refusal response =
     (response ≡ refusal_response form machine refusal) ⊎ ((is_plain refusal ≡ false) × (response ≡ memory_response form machine))
 
--- what was asked is refused because the office is closed or because its store failed with the fault that is told, and the office then stands so
+-- what was asked is refused because the office is closed or because its store failed with the fault that is told, and
+-- the office then stands so
 abbrev pub IsRefusedByStore : Form → Machine → (StoreFault → Standing) → Response → Standing → Type 0
 IsRefusedByStore form machine failed response standing =
     (IsRefusal form machine Closed response × (standing ≡ Shut))
     ⊎ ((fault : StoreFault) × IsRefusal form machine (Store fault) response × (standing ≡ failed fault))
 
--- what may be answered to what was found, or to a refusal: that there is no memory is said only for the text of what was found, or of a refusal with more than a
--- number and a name
+-- what may be answered to what was found, or to a refusal: that there is no memory is said only for the text of what
+-- was found, or of a refusal with more than a number and a name
 abbrev pub IsFoundAnswer : Form → Machine → Result Answer Refusal → Response → Type 0
 IsFoundAnswer form machine (Ok found) response =
     (response ≡ found_response form machine (Ok found)) ⊎ (response ≡ memory_response form machine)

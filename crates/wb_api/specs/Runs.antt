@@ -6,6 +6,7 @@ use Rattle.wb_step.specs.Offices.{Standing, Open}
 use Rattle.wb_step.specs.Step.{step}
 use Rattle.wb_api.specs.declared.request.Received.{Received}
 use Rattle.wb_api.specs.declared.request.Received.TheVariants as received
+use Rattle.wb_keys.specs.declared.access.Access.{Access}
 use Rattle.wb_lists.specs.Lists.{MayRead}
 use Rattle.wb_api.specs.Exchange.{AsksFor, ExchangesWith, TellsOk}
 use Rattle.wb_api.specs.declared.serve.Served.{Served}
@@ -15,26 +16,27 @@ pub record Exchange : Type 0 where
   pub received : Received
   pub ended : Served
 
--- exchanges one after another take the office from one state to another, by what lists may be read as, and it stands so
--- after the last; before each it stands open
-abbrev pub Serves : MayRead → List Exchange → Machine → Machine → Standing → Type 0
-Serves may_read [] before after standing = (after ≡ before) × (standing ≡ Open)
-Serves may_read (one ∷ others) before after standing =
+-- exchanges one after another take the office from one state to another, by who may ask for what and what lists may be
+-- read as, and it stands so after the last; before each it stands open
+abbrev pub Serves : Access → MayRead → List Exchange → Machine → Machine → Standing → Type 0
+Serves access may_read [] before after standing = (after ≡ before) × (standing ≡ Open)
+Serves access may_read (one ∷ others) before after standing =
     (between : Machine) × (stands : Standing) × (old new : Option (List ℕ))
-    × ExchangesWith may_read one.received before between stands old new one.ended
+    × ExchangesWith access may_read one.received before between stands old new one.ended
     × (((others ≡ []) × (after ≡ between) × (standing ≡ stands))
-    ⊎ ((stands ≡ Open) × Serves may_read others between after standing))
+    ⊎ ((stands ≡ Open) × Serves access may_read others between after standing))
 
 -- what was received asks for this command: it is the command, or the merge that the lists which it names may be read as
 abbrev pub IsAskedFor : MayRead → Received → Command → Type 0
-IsAskedFor may_read (received.Asked asked) command = AsksFor may_read asked command
+IsAskedFor may_read (received.Asked shown asked) command = AsksFor may_read asked command
 IsAskedFor may_read came command = ⊥
 
 -- a command was answered with status 200, or with a front of such an answer
 abbrev pub IsAcknowledged : MayRead → Exchange → Command → Type 0
 IsAcknowledged may_read one command = IsAskedFor may_read one.received command × TellsOk one.ended
 
--- the commands that exchanges from this state had the office accept, in their order; none that was acknowledged is missing
+-- the commands that exchanges from this state had the office accept, in their order; none that was acknowledged is
+-- missing
 abbrev pub AreAccepted : MayRead → Machine → List Exchange → List Command → Type 0
 AreAccepted may_read machine [] commands = commands ≡ []
 AreAccepted may_read machine (one ∷ others) commands =

@@ -42,7 +42,8 @@ pub(crate) fn fault_answer(fault: Fault) -> HttpAnswer
     }
 }
 
-/// The answer to what was refused. It says that memory ran out if there is none for the text of the refusal.
+/// The answer to what was refused. It says that memory ran out if there is none for the text of the
+/// refusal.
 pub(crate) fn refusal_answer(alloc: Global, refusal: &Refusal) -> HttpAnswer
     ensures value { (machine : Machine)
         → IsRefusal over_http machine refusal.now (response_of_answer result machine) }
@@ -56,8 +57,9 @@ pub(crate) fn refusal_answer(alloc: Global, refusal: &Refusal) -> HttpAnswer
     }
 }
 
-/// The answer of the office to a command, which it carries out first. It is `None` if the command was accepted and there
-/// is no memory for the reply; a reply that repeats an assignment accepts nothing.
+/// The answer of the office to a command, which it carries out first. It is `None` if the command
+/// was accepted and there is no memory for the reply; a reply that repeats an assignment accepts
+/// nothing.
 pub(crate) fn answer_command<O: CarryOut>(
     alloc: Global,
     office: &mut O,

@@ -11,8 +11,8 @@ use std::borrow::CowStr;
 use wb_states::{Answer, Query, Refusal};
 use wb_step::CarryOut;
 
-/// The answer to what the office found, or to its refusal. That memory ran out is the answer only if the office said so, or
-/// if there is none for the text.
+/// The answer to what the office found, or to its refusal. That memory ran out is the answer only
+/// if the office said so, or if there is none for the text.
 fn found_answer(alloc: Global, found: Result<Answer, Refusal>) -> HttpAnswer
     ensures value { (machine : Machine) → IsFoundAnswer over_http machine found (response_of_answer result machine) }
 {

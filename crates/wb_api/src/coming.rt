@@ -7,6 +7,7 @@ ghost use Rattle.wb_api.specs.Coming.{EndsAfterWith, IsSettledWith};
 ghost use Rattle.wb_api.specs.Requests.{body_length, IsRequestFrontWith, wanted_of_with};
 ghost use Rattle.wb_api.specs.declared.coming.Coming.TheVariants as coming;
 
+use crate::Service;
 use crate::request::{Wanted, wanted_of};
 use crate::route::Routes;
 use std::alloc::Global;
@@ -42,22 +43,22 @@ fn head_coming(bytes: &[u8]) -> Coming
 fn body_coming(
     alloc: Global,
     routes: &Routes,
-    has_lists: bool,
+    service: &Service,
     bytes: &[u8],
     count: usize,
 ) -> Coming
     ensures head { result ≢ coming.Head }
     ensures body { (total : ℕ) (head : RequestHead) → result ≡ coming.Body total
         → IsHeadAt bytes.now count head → (length bytes.now < total) × (count ≤ head_limit)
-        × (total ≡ count + body_length (wanted_of_with has_lists head)) }
+        × (total ≡ count + body_length (wanted_of_with service.now head)) }
     ensures whole { (head : RequestHead) → result ≡ coming.Whole
         → IsHeadAt bytes.now count head → count ≤ head_limit
-        → count + body_length (wanted_of_with has_lists head) ≤ length bytes.now }
+        → count + body_length (wanted_of_with service.now head) ≤ length bytes.now }
 {
     if count > HEAD_LIMIT {
         return Coming::Whole;
     }
-    match wanted_of(alloc, routes, has_lists, bytes) {
+    match wanted_of(alloc, routes, service, bytes) {
         Ok(Wanted::Body { length, .. }) if bytes.len() < count.saturating_add(length) => {
             Coming::Body(count.saturating_add(length))
         }
@@ -73,26 +74,26 @@ fn body_coming(
 /// What has come of the request of a connection, by its first bytes. While more has to come, they
 /// are the front of a request, and no answer is due. Once they are whole, a request or a fault of
 /// one, what follows plays no part. Without lists there is no path of a merge, so that such a
-/// request is whole with its head. A head with too many fields is whole once it has ended. A fault
-/// of a path, a method or a field is whole with its head, and so is a path for which there is no
-/// memory.
-/// Source: RFC 9112, section 6.3; the limits are this project's own.
-pub fn coming_of(alloc: Global, routes: &Routes, has_lists: bool, bytes: &[u8]) -> Coming
+/// request is whole with its head, and so is one that keys do not allow. A head with too many
+/// fields is whole once it has ended. A fault of a path, a method or a field is whole with its
+/// head, and so is a path for which there is no memory. Source: RFC 9112, section 6.3; the limits
+/// are this project's own.
+pub fn coming_of(alloc: Global, routes: &Routes, service: &Service, bytes: &[u8]) -> Coming
     // while more has to come, no answer is due
-    ensures front { result ≢ coming.Whole → IsRequestFrontWith has_lists bytes.now }
+    ensures front { result ≢ coming.Whole → IsRequestFrontWith service.now bytes.now }
     ensures head { result ≡ coming.Head → IsHeadFront bytes.now }
     ensures body { (total : ℕ) → result ≡ coming.Body total → (length bytes.now < total)
-        × (total ≤ head_limit + body_limit) × EndsAfterWith has_lists bytes.now total }
+        × (total ≤ head_limit + body_limit) × EndsAfterWith service.now bytes.now total }
     // what follows plays no part, once the bytes are whole, or as many as the request has
-    ensures whole { result ≡ coming.Whole → IsSettledWith has_lists bytes.now }
+    ensures whole { result ≡ coming.Whole → IsSettledWith service.now bytes.now }
     ensures come { (total : ℕ) (more : List ℕ) → result ≡ coming.Body total
-        → total ≤ length (bytes.now ++ more) → IsSettledWith has_lists (bytes.now ++ more) }
+        → total ≤ length (bytes.now ++ more) → IsSettledWith service.now (bytes.now ++ more) }
 {
     if bytes.is_empty() {
         return Coming::Head;
     }
     match front_of(bytes) {
-        Front::Whole(count) => body_coming(alloc, routes, has_lists, bytes, count),
+        Front::Whole(count) => body_coming(alloc, routes, service, bytes, count),
         Front::Unfinished => head_coming(bytes),
         Front::Crowded => head_coming(bytes),
         Front::Malformed => Coming::Whole,

@@ -1,5 +1,6 @@
-//! The bodies of requests that give a command: JSON objects (RFC 8259). All that a command needs of its body is found before
-//! any of it is copied, so that a key that is missing is never reported as out of memory.
+//! The bodies of requests that give a command: JSON objects (RFC 8259). All that a command needs of
+//! its body is found before any of it is copied, so that a key that is missing is never reported as
+//! out of memory.
 ghost use Rattle.std.specs.Prelude.{◌≡◌, codes, Err, IfOk, IfSome, IsSome, OnErr, option_map};
 ghost use Rattle.serde_json.specs.View.{view};
 ghost use Rattle.wb_api.specs.Commands.{add_arch_in, add_builder_in, attempted_in};
@@ -45,8 +46,8 @@ fn number_in(key: &str, body: &Value) -> Option<u64>
     body.get(key).and_then(Value::as_u64)
 }
 
-/// The integer under a key; `None` if there is none in digits alone or after a minus sign, if it is -0, or if it
-/// does not fit 64 bits.
+/// The integer under a key; `None` if there is none in digits alone or after a minus sign, if it is
+/// -0, or if it does not fit 64 bits.
 fn integer_in(key: &str, body: &Value) -> Option<i64>
     ensures value { result ≡ integer_in key.now (view body.now) }
 {
@@ -69,8 +70,8 @@ fn number_or_none_in(key: &str, body: &Value) -> Option<Option<u64>>
     }
 }
 
-/// The architecture, the source package and the version that a body names; `None` if one of them is missing. Takes no
-/// memory.
+/// The architecture, the source package and the version that a body names; `None` if one of them is
+/// missing. Takes no memory.
 #[tactic(auto, unfolding(crate::specs::Commands::named_source_in))]
 fn named_source_in(body: &Value) -> Option<NamedSource<'_>>
     ensures value { option_map named_source_of result ≡ named_source_in (view body.now) }
@@ -358,8 +359,8 @@ fn report_in(alloc: Global, body: &Value) -> Result<Option<Command>, AllocError>
     })))
 }
 
-/// The command of this kind that a body gives; `None` if a key is missing or has another kind of value.
-/// The only error is that memory ran out, for a body that gives one.
+/// The command of this kind that a body gives; `None` if a key is missing or has another kind of
+/// value. The only error is that memory ran out, for a body that gives one.
 fn command_in(alloc: Global, kind: CommandKind, body: &Value) -> Result<Option<Command>, AllocError>
     ensures value { IfOk result (λ command. command ≡ command_in kind (view body.now)) }
     ensures memory { OnErr result (IsSome (command_in kind (view body.now))) }
@@ -385,8 +386,8 @@ fn command_in(alloc: Global, kind: CommandKind, body: &Value) -> Result<Option<C
     }
 }
 
-/// The command of this kind that a body gives. The errors are that a key is missing or has another kind of value, and, for a
-/// body that gives a command, that memory ran out.
+/// The command of this kind that a body gives. The errors are that a key is missing or has another
+/// kind of value, and, for a body that gives a command, that memory ran out.
 fn command_from(alloc: Global, kind: CommandKind, body: &Value) -> Result<Command, RequestError>
     ensures value { GivesOr result (or_bad_body (command_in kind (view body.now))) }
     ensures memory { result ≡ Err Memory → IsSome (command_in kind (view body.now)) }
@@ -398,8 +399,8 @@ fn command_from(alloc: Global, kind: CommandKind, body: &Value) -> Result<Comman
     }
 }
 
-/// The value that bytes write in JSON; `None` if they write none. The only error is that memory ran out, for bytes that
-/// are UTF-8.
+/// The value that bytes write in JSON; `None` if they write none. The only error is that memory ran
+/// out, for bytes that are UTF-8.
 pub(crate) fn json_of(alloc: Global, bytes: &[u8]) -> Result<Option<Value>, AllocError>
     ensures value { IfOk result (λ value. option_map view value ≡ json_of bytes.now) }
     ensures text { IfOk result (λ value. IfSome value (λ _. IsText bytes.now)) }
@@ -420,8 +421,8 @@ pub(crate) fn json_of(alloc: Global, bytes: &[u8]) -> Result<Option<Value>, Allo
     }
 }
 
-/// The command of this kind that the bytes of a body give. The errors are that they give none, and, for bytes that are
-/// UTF-8, that memory ran out.
+/// The command of this kind that the bytes of a body give. The errors are that they give none, and,
+/// for bytes that are UTF-8, that memory ran out.
 #[tactic(auto, unfolding(crate::specs::Commands::command_of))]
 pub(crate) fn command_of(
     alloc: Global,

@@ -14,11 +14,11 @@ use wb_states::{Assignment, MergeCounts, PartEnd, PartReply, Reply};
 /// The reply to an accepted command as one JSON object (RFC 8259), with no space and no line feed.
 ///
 /// `name` is the command's name and stands under `ok`, save that `again` stands there if the reply
-/// repeats what a builder builds. A count and a take number stand in all their digits. The parts of a merge
-/// stand in their order, a refused one as its refusal with its architecture. In a text `"`, `\` and the
-/// control bytes are escaped, by the short escape if JSON has one, else by `\u00` and two lower-case digits;
-/// all other bytes stand as they are. The only error is that there is no memory for the text.
-/// The keys are this project's own.
+/// repeats what a builder builds. A count and a take number stand in all their digits. The parts of
+/// a merge stand in their order, a refused one as its refusal with its architecture. In a text `"`,
+/// `\` and the control bytes are escaped, by the short escape if JSON has one, else by `\u00` and
+/// two lower-case digits; all other bytes stand as they are. The only error is that there is no
+/// memory for the text. The keys are this project's own.
 #[tactic(auto, using(crate::proofs::EncodingLemmas::printing))]
 pub fn reply_json(alloc: Global, name: &str, reply: &Reply) -> Result<String, AllocError>
     ensures value { IfOk result (λ text. string_bytes text ≡ reply_text name.now reply.now) }

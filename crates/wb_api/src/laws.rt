@@ -1,6 +1,6 @@
 //! Laws of the definitions, each on a function with nothing to run.
-ghost use Rattle.std.specs.Prelude.{ℕ, ◌<◌, List, [], ◌∷◌, get_or, ◌≡◌, ◌++◌, pos, neg_ℤ, Bool};
-ghost use Rattle.std.specs.Prelude.{codes, is_some, map, replicate, true, None, Some, Ok, Err};
+ghost use Rattle.std.specs.Prelude.{ℕ, ◌<◌, List, [], ◌∷◌, get_or, ◌≡◌, ◌++◌, pos, neg_ℤ};
+ghost use Rattle.std.specs.Prelude.{codes, false, IfSome, is_some, map, Option, replicate, true, None, Some, Ok, Err};
 ghost use Rattle.deb_text.specs.Lines.{IsOneLine};
 ghost use Rattle.wb_states.specs.declared.refusal.Refusal.{Refusal as AnyRefusal};
 ghost use Rattle.wb_states.specs.declared.reply.Reply.{Reply as AnyReply};
@@ -16,7 +16,9 @@ ghost use Rattle.wb_api.specs.Commands.{command_in, value_in};
 ghost use Rattle.wb_api.specs.Keys.{has_keys, keys_of};
 ghost use Rattle.wb_api.specs.declared.route.CommandKind.{CommandKind as AnyKind};
 ghost use Rattle.wb_api.specs.Merges.{merge, merge_body, part};
-ghost use Rattle.wb_api.specs.Requests.{Answers, asked_with, field, got, got_with, head_of, IsHead};
+ghost use Rattle.wb_keys.specs.declared.access.Access.{Access as AnyAccess};
+ghost use Rattle.wb_keys.specs.declared.access.Shown.{Shown as AnyShown};
+ghost use Rattle.wb_api.specs.Requests.{Answers, asked_with, beside_lists, field, got, got_with, head_of, IsHead};
 ghost use Rattle.wb_api.specs.Requests.{MeansWith, posted, posted_beside_lists, posted_with};
 ghost use Rattle.wb_api.specs.Requests.{TakesMemory, wanted_of_with};
 ghost use Rattle.wb_streams.specs.Fields.{is_from_browser};
@@ -27,18 +29,31 @@ ghost use Rattle.wb_api.specs.declared.request.Received.{Received as AnyReceived
 ghost use Rattle.wb_api.specs.declared.request.Received.TheVariants.{Asked, Memory, Refused};
 ghost use Rattle.wb_api.specs.declared.request.Request.{Request as AnyRequest};
 ghost use Rattle.wb_api.specs.declared.request.Request.TheVariants.{Command, Merge, Query};
+ghost use Rattle.wb_api.specs.declared.service.Service.{Service as AnyService};
 ghost use Rattle.wb_states.specs.declared.query.Query.TheVariants as query;
-ghost use Rattle.wb_states.specs.Machine.{Machine};
+ghost use Rattle.wb_states.specs.Machine.{IsConsistent, Key, Machine};
 ghost use Rattle.wb_states.specs.declared.command.Command.{Command as AnyCommand};
-ghost use Rattle.wb_step.specs.Offices.{Standing};
+ghost use Rattle.wb_step.specs.Offices.{Open, Standing};
 ghost use Rattle.wb_step.specs.Replay.{replay};
+ghost use Rattle.sha2.specs.Sha256.{sha256};
+ghost use Rattle.wb_keys.specs.Access.{everybody};
+ghost use Rattle.wb_keys.specs.Rights.{kind_of, may_ask_for, may_command};
+ghost use Rattle.wb_keys.specs.declared.access.Shown.TheVariants.{Hash, Malformed, Nothing};
+ghost use Rattle.wb_keys.specs.declared.right.Right.{Right};
+ghost use Rattle.wb_keys.specs.declared.right.Right.TheVariants.{Build};
+ghost use Rattle.wb_step.specs.Step.{step};
+ghost use Rattle.wb_api.specs.Own.{ChangesOwn};
+ghost use Rattle.wb_api.specs.Exchange.{ExchangesWith};
+ghost use Rattle.wb_api.specs.Rights.{is_allowed, kind_of_path, shown_by};
+ghost use Rattle.wb_api.specs.declared.serve.Served.{Served as AnyServed};
 ghost use Rattle.wb_api.specs.Routes.{route_at, routed};
 ghost use Rattle.wb_api.specs.Runs.{AreAccepted, Exchange, Serves};
 
 use wb_lists::Lists;
 use wb_step::CarryOut;
 
-/// No line feed stands in an answer, whatever texts it carries: an answer is one line (RFC 8259, section 7).
+/// No line feed stands in an answer, whatever texts it carries: an answer is one line (RFC 8259,
+/// section 7).
 pub fn answers_are_one_line()
     ensures reply { (name : List ℕ) (reply : AnyReply) → IsOneLine (reply_text name reply) }
     ensures refusal { (refusal : AnyRefusal) → IsOneLine (refusal_text refusal) }
@@ -47,38 +62,42 @@ pub fn answers_are_one_line()
         × (IsOneLine line_fault_text × IsOneLine file_fault_text) }
 {}
 
-/// An input that begins with a head within the limits is received as what this head and the bytes after it
-/// ask for, or as their first fault, and in no other way unless a read failed or memory ran out (RFC 9112,
-/// section 2.1). This holds where lists are served, and where none are.
+/// An input that begins with a head within the limits is received as what this head and the bytes
+/// after it ask for, or as their first fault, and in no other way unless a read failed or memory
+/// ran out (RFC 9112, section 2.1), whatever is served and to whom.
 pub fn a_head_decides()
-    ensures value { (lists : Bool) (input : List ℕ) (head : RequestHead) (rest : List ℕ)
-        (received : AnyReceived) → IsHead input head rest → MeansWith lists input received
-        → Answers (asked_with lists head rest) received }
+    ensures value { (service : AnyService) (input : List ℕ) (head : RequestHead) (rest : List ℕ)
+        (received : AnyReceived) → IsHead input head rest → MeansWith service input received
+        → Answers (asked_with service head rest) received }
     // memory runs out only if what the head asks for takes some
-    ensures memory { (lists : Bool) (input : List ℕ) (head : RequestHead) (rest : List ℕ)
-        → IsHead input head rest → MeansWith lists input Memory
-        → TakesMemory (wanted_of_with lists head) }
+    ensures memory { (service : AnyService) (input : List ℕ) (head : RequestHead) (rest : List ℕ)
+        → IsHead input head rest → MeansWith service input Memory
+        → TakesMemory (wanted_of_with service head) }
 {}
 
-/// What follows a request plays no part: a request is the same request with any bytes after it, and so is the fault of
-/// one, unless it is that the input ended within the head or the body (RFC 9112, section 6.3).
+/// What follows a request plays no part: a request is the same request with any bytes after it, and
+/// so is the fault of one, unless it is that the input ended within the head or the body (RFC 9112,
+/// section 6.3).
 pub fn what_follows_plays_no_part()
-    ensures asked { (lists : Bool) (input more : List ℕ) (request : AnyRequest)
-        → MeansWith lists input (Asked request) → MeansWith lists (input ++ more) (Asked request) }
-    ensures refused { (lists : Bool) (input more : List ℕ) (fault : AnyFault)
+    ensures asked { (service : AnyService) (input more : List ℕ) (shown : AnyShown) (request : AnyRequest)
+        → MeansWith service input (Asked shown request)
+        → MeansWith service (input ++ more) (Asked shown request) }
+    ensures refused { (service : AnyService) (input more : List ℕ) (fault : AnyFault)
         → ¬ (fault ≡ BodyCut) → ¬ (fault ≡ BadHead)
-        → MeansWith lists input (Refused fault) → MeansWith lists (input ++ more) (Refused fault) }
+        → MeansWith service input (Refused fault) → MeansWith service (input ++ more) (Refused fault) }
 {}
 
-/// The router finds for each target what the target is for: a path alone, or a path and as many parts as it has, with slashes
-/// between them and none of them empty (RFC 3986, section 3.3). It finds nothing for any other target.
+/// The router finds for each target what the target is for: a path alone, or a path and as many
+/// parts as it has, with slashes between them and none of them empty (RFC 3986, section 3.3). It
+/// finds nothing for any other target.
 pub fn the_router_finds_each_target()
     ensures value { (target : List ℕ) → ((i : ℕ) → get_or target i 0 < 256)
         → routed target ≡ route_at target }
 {}
 
-/// A GET of a query's path is that query, about the parts of the path, each decoded once (RFC 3986, section 2.1). A path
-/// with another number of parts is no path of a query, and neither is one with an empty part.
+/// A GET of a query's path is that query, about the parts of the path, each decoded once (RFC 3986,
+/// section 2.1). A path with another number of parts is no path of a query, and neither is one with
+/// an empty part.
 pub fn gets_are_queries()
     // lists
     ensures queue { got (codes "/v1/queue/amd64") ≡ Ok (Query (query.Queue (codes "amd64"))) }
@@ -202,7 +221,7 @@ pub fn merges_name_lists()
         (merge_body (codes "p.") (codes "s"))
         ≡ Ok (Merge (merge (part (codes "amd64") (codes "p.") ∷ []) (codes "s"))) }
     // other requests
-    ensures get_of_merge { asked_with true (head_of (codes "GET") (codes "/v1/merge") []) []
+    ensures get_of_merge { asked_with beside_lists (head_of (codes "GET") (codes "/v1/merge") []) []
         ≡ Err WrongMethod }
     ensures other_path { posted_beside_lists (codes "/v1/merge/s")
         (merge_body (codes "p") (codes "s")) ≡ Err NoRoute }
@@ -210,18 +229,75 @@ pub fn merges_name_lists()
         (merge_body (codes "p") (codes "s")) ≡ Err NoRoute }
 {}
 
-/// A body gives a command exactly if it has each key of the table for its path, with what that has to have.
+/// A body gives only commands of the kind for which the rights are asked by its path, before it is
+/// read: who has no right for the kind has none for what a body may ask for.
+pub fn paths_say_the_kind()
+    ensures commands { (kind : AnyKind) (body : Data) → IfSome (command_in kind body)
+        (λ command. kind_of command ≡ kind_of_path kind) }
+    ensures refused { (rights : List Right) (machine : Machine) (kind : AnyKind) (body : Data)
+        → may_ask_for rights (kind_of_path kind) ≡ false → IfSome (command_in kind body)
+        (λ command. may_command rights machine command ≡ false) }
+{}
+
+/// An exchange has the office do what its request asks for only if the line of its key has a right
+/// for it, by who holds a take number before. After each other answer the office is as it was.
+/// Where no keys are asked for, everybody has every right.
+pub fn only_what_is_allowed_is_done<L: Lists>()
+    ensures done { (access : AnyAccess) (lists : L) (shown : AnyShown) (asked : AnyRequest)
+        (before after : Machine) (standing : Standing) (old new : Option (List ℕ)) (ended : AnyServed)
+        → ExchangesWith access (L.may_read lists) (Asked shown asked) before after standing old new ended
+        → ¬ (after ≡ before) → is_allowed access shown before asked ≡ true }
+    ensures refused { (access : AnyAccess) (lists : L) (fault : AnyFault)
+        (before after : Machine) (standing : Standing) (old new : Option (List ℕ)) (ended : AnyServed)
+        → ExchangesWith access (L.may_read lists) (Refused fault) before after standing old new ended
+        → (after ≡ before) × (standing ≡ Open) }
+    ensures everybody { (shown : AnyShown) (machine : Machine) (asked : AnyRequest)
+        → is_allowed everybody shown machine asked ≡ true }
+{}
+
+/// The key of a builder alone changes no record but one that the builder held before the command,
+/// or is handed by it and so holds after it, whatever is asked: in a consistent office, as each one
+/// is that stands at a state.
+pub fn builders_change_what_they_hold()
+    ensures step { (builder : List ℕ) (machine : Machine) (command : AnyCommand) (key : Key)
+        → IsConsistent machine → may_command (Build builder ∷ []) machine command ≡ true
+        → ChangesOwn builder machine (step machine command).1 key }
+{}
+
+/// By examples: what the field of a key shows (RFC 6750, section 2.1). The scheme is read in
+/// whatever letters, with one space or more behind it (RFC 9110, section 11.1).
+pub fn fields_show_keys()
+    ensures none { shown_by ((codes "host", codes "a") ∷ []) ≡ Nothing }
+    ensures key { shown_by ((codes "Authorization", codes "Bearer 0123456789abcdefghij") ∷ [])
+        ≡ Hash (sha256 (codes "0123456789abcdefghij")) }
+    ensures spaces { shown_by ((codes "authorization", codes "BEARER   0123456789abcdefghi=") ∷ [])
+        ≡ Hash (sha256 (codes "0123456789abcdefghi=")) }
+    ensures short { shown_by ((codes "authorization", codes "Bearer 0123456789abcdefghi") ∷ [])
+        ≡ Malformed }
+    ensures space_within { shown_by ((codes "authorization", codes "Bearer 0123456789 abcdefghij") ∷ [])
+        ≡ Malformed }
+    ensures no_space { shown_by ((codes "authorization", codes "Bearer0123456789abcdefghij") ∷ [])
+        ≡ Malformed }
+    ensures other_scheme { shown_by ((codes "authorization", codes "Basic 0123456789abcdefghij") ∷ [])
+        ≡ Malformed }
+    ensures twice { shown_by ((codes "authorization", codes "Bearer 0123456789abcdefghij")
+        ∷ (codes "AUTHORIZATION", codes "Bearer 0123456789abcdefghij") ∷ []) ≡ Malformed }
+{}
+
+/// A body gives a command exactly if it has each key of the table for its path, with what that has
+/// to have.
 pub fn commands_are_read_by_their_keys()
     ensures value { (kind : AnyKind) (body : Data) → is_some (command_in kind body) ≡ has_keys (keys_of kind) body }
 {}
 
-/// A request that a web page had its browser send asks for nothing, whatever its method, its target and its body are: one
-/// with an `Origin` field (RFC 6454, section 7), or with a `Sec-Fetch-Site` field of another value than `none` (Fetch
-/// Metadata Request Headers, section 2.3). Names of fields compare without case, the value does not.
+/// A request that a web page had its browser send asks for nothing, whatever its method, its target
+/// and its body are: one with an `Origin` field (RFC 6454, section 7), or with a `Sec-Fetch-Site`
+/// field of another value than `none` (Fetch Metadata Request Headers, section 2.3). Names of
+/// fields compare without case, the value does not.
 pub fn pages_ask_for_nothing()
-    ensures value { (lists : Bool) (head : RequestHead) (rest : List ℕ)
+    ensures value { (service : AnyService) (head : RequestHead) (rest : List ℕ)
         → is_from_browser (map name_and_value head.fields) ≡ true
-        → asked_with lists head rest ≡ Err FromBrowser }
+        → asked_with service head rest ≡ Err FromBrowser }
     // a form of a page, and what a page fetches; a fault of the target comes later
     ensures form { posted_with (field (codes "Origin") (codes "null") ∷ []) (codes "/v1/built")
         (codes "{\"take\":1}") ≡ Err FromBrowser }
@@ -236,8 +312,9 @@ pub fn pages_ask_for_nothing()
         (codes "/v1/summary/amd64") ≡ Ok (Query (query.Summary (codes "amd64"))) }
 {}
 
-/// The value of a build priority is an integer from -2^63 to 2^63 - 1, in digits alone or after a minus sign. No
-/// other value is read: not -0, no fraction, no exponent, no text, not null, and not what is missing.
+/// The value of a build priority is an integer from -2^63 to 2^63 - 1, in digits alone or after a
+/// minus sign. No other value is read: not -0, no fraction, no exponent, no text, not null, and not
+/// what is missing.
 pub fn values_are_integers()
     // integers
     ensures positive { value_in (codes "{\"value\":5}") ≡ Some (pos 5) }
@@ -257,12 +334,12 @@ pub fn values_are_integers()
     ensures missing { value_in (codes "{\"values\":5}") ≡ None }
 {}
 
-/// A run of exchanges leaves what the commands that it accepted leave one after another, and each command that was
-/// answered with status 200, or with a front of such an answer, is among them. A merge is that of what its lists may be
-/// read as.
+/// A run of exchanges leaves what the commands that it accepted leave one after another, and each
+/// command that was answered with status 200, or with a front of such an answer, is among them. A
+/// merge is that of what its lists may be read as.
 pub fn runs_leave_what_was_accepted<O: CarryOut, L: Lists>()
-    ensures replay { (lists : L) (exchanges : List Exchange) (before after : Machine) (standing : Standing)
-        → Serves (L.may_read lists) exchanges before after standing
+    ensures replay { (access : AnyAccess) (lists : L) (exchanges : List Exchange) (before after : Machine) (standing : Standing)
+        → Serves access (L.may_read lists) exchanges before after standing
         → (commands : List AnyCommand) × AreAccepted (L.may_read lists) before exchanges commands
         × (after ≡ replay before commands) }
 {}

@@ -1,7 +1,9 @@
-//! One exchange of an office that merges lists: where a merge is asked for, its lists are opened before the office is asked.
+//! One exchange of an office that merges lists: where a merge is asked for, its lists are opened
+//! before the office is asked.
 ghost use Rattle.std.specs.Prelude.{◌≡◌, ℕ, List, [], IfSome, IsOk, None, Some, false, true};
 ghost use Rattle.wb_lists.specs.Lists.{MayReadLess, MayReadMerge};
 ghost use Rattle.wb_lists.specs.declared.names.MergeNames.{MergeNames as AnyNames};
+ghost use Rattle.wb_keys.specs.declared.access.Shown.{Shown as AnyShown};
 ghost use Rattle.wb_states.specs.Machine.{Machine};
 ghost use Rattle.wb_states.specs.declared.command.Command.{Command as AnyCommand};
 ghost use Rattle.wb_step.specs.Offices.{Accepts, Reaches};
@@ -11,23 +13,26 @@ ghost use Rattle.wb_api.specs.declared.request.Received.TheVariants.{Asked};
 ghost use Rattle.wb_api.specs.declared.request.Received.{Received as AnyReceived};
 ghost use Rattle.wb_api.specs.declared.request.Request.TheVariants.{Command as asked_Command, Merge as asked_Merge};
 ghost use Rattle.wb_streams.specs.Streams.{Flags};
-ghost use Rattle.wb_api.specs.Exchange.{AsksFor, ExchangesWith, fails_to_write, is_asked, is_merge, is_silent};
-ghost use Rattle.wb_api.specs.Exchange.{IsAnswerWith, LeadsOn, ReceivesWith, RespondsWith, response_of_answer, TellsOk};
+ghost use Rattle.wb_api.specs.Exchange.{AsksFor, asks_merge, ExchangesWith, fails_to_write, is_asked, is_merge, is_silent};
+ghost use Rattle.wb_api.specs.Exchange.{IsAnswerWith, LeadsOn, ReceivesWith, RespondsTo, RespondsWith};
+ghost use Rattle.wb_api.specs.Exchange.{response_of_answer, TellsOk};
 
-use crate::Request;
 use crate::answer::{HttpAnswer, answer_command};
 use crate::ask::answer_query;
 use crate::merge_answer::answer_merge;
+use crate::rights::not_allowed;
 use crate::route::Routes;
-use crate::serve::{Served, receive, send};
+use crate::serve::{KeyedRequest, Served, receive, send};
+use crate::{Request, Service};
 use std::alloc::Global;
 use std::io::{Read, Write};
 use wb_archive::MergeFrom;
+use wb_keys::Access;
 use wb_lists::Lists;
 use wb_streams::{WatchedReader, WatchedWriter};
 
-/// The answer of the office to a request, with the lists of a merge. It is `None` if a command was accepted and there is
-/// no memory for the reply.
+/// The answer of the office to a request, with the lists of a merge. It is `None` if a command was
+/// accepted and there is no memory for the reply.
 fn answer_request<O: MergeFrom, L: Lists>(
     alloc: Global,
     office: &mut O,
@@ -44,7 +49,7 @@ fn answer_request<O: MergeFrom, L: Lists>(
         × Accepts before command after) }
     // what is left of the lists
     ensures kept { MayReadLess (L.may_read lists.old) (L.may_read lists.new) }
-    ensures unopened { is_merge (Asked request.now) ≡ false → lists.new ≡ lists.old }
+    ensures unopened { asks_merge request.now ≡ false → lists.new ≡ lists.old }
 {
     match request {
         Request::Command(command) => answer_command(alloc, office, command),
@@ -70,7 +75,7 @@ fn respond<O: MergeFrom, L: Lists, W: Write + Drop>(
     ensures failed { Flags (fails_to_write result) writer.old writer.new }
     // what is left of the lists
     ensures kept { MayReadLess (L.may_read lists.old) (L.may_read lists.new) }
-    ensures unopened { is_merge (Asked request.now) ≡ false → lists.new ≡ lists.old }
+    ensures unopened { asks_merge request.now ≡ false → lists.new ≡ lists.old }
 {
     match answer_request(alloc, office, lists, request) {
         Some(answer) => send(writer, &answer),
@@ -78,11 +83,42 @@ fn respond<O: MergeFrom, L: Lists, W: Write + Drop>(
     }
 }
 
-/// Reads one request, has the office carry it out, with the lists of a merge, and writes the answer.
+/// Has the office answer a request, if who asks may, and then writes the answer; or writes that it
+/// is not allowed.
+fn respond_to<O: MergeFrom, L: Lists, W: Write + Drop>(
+    alloc: Global,
+    access: &Access,
+    office: &mut O,
+    lists: &mut L,
+    asked: &KeyedRequest,
+    writer: &mut WatchedWriter<W>,
+) -> Served
+    // what is answered
+    ensures clean { O.is_clean office.new → O.is_clean office.old }
+    ensures value { LeadsOn O.is_clean O.is_closed O.stands_at O.leaves office.old office.new
+        (λ before after standing. RespondsTo access.now (L.may_read lists.old) asked.now.shown asked.now.request
+        before after standing writer.old.bytes writer.new.bytes result) }
+    ensures silent { is_silent result ≡ true → writer.new.bytes ≡ writer.old.bytes }
+    ensures failed { Flags (fails_to_write result) writer.old writer.new }
+    // what is left of the lists
+    ensures kept { MayReadLess (L.may_read lists.old) (L.may_read lists.new) }
+    ensures unopened { asks_merge asked.now.request ≡ false → lists.new ≡ lists.old }
+{
+    match not_allowed(alloc, office, access, &asked.shown, &asked.request) {
+        Some(answer) => send(writer, &answer),
+        None => {
+            office.asked_by(access.name_of(&asked.shown));
+            respond(alloc, office, lists, &asked.request, writer)
+        }
+    }
+}
+
+/// Reads one request, has the office carry it out, with the lists of a merge, and writes the
+/// answer.
 fn exchange<O: MergeFrom, L: Lists, R: Read + Drop, W: Write + Drop>(
     alloc: Global,
     routes: &Routes,
-    has_lists: bool,
+    service: &Service,
     office: &mut O,
     lists: &mut L,
     reader: &mut WatchedReader<R>,
@@ -90,34 +126,43 @@ fn exchange<O: MergeFrom, L: Lists, R: Read + Drop, W: Write + Drop>(
 ) -> Served
     // what was asked, done and answered, and which lists were opened
     ensures clean { O.is_clean office.new → O.is_clean office.old }
-    ensures value { (received : AnyReceived) × ReceivesWith has_lists reader.old reader.new received
+    ensures value { (received : AnyReceived) × ReceivesWith service.now reader.old reader.new received
         × (is_asked received ≡ false → office.new ≡ office.old)
         × (is_merge received ≡ false → lists.new ≡ lists.old)
         × LeadsOn O.is_clean O.is_closed O.stands_at O.leaves office.old office.new
-        (λ before after standing. ExchangesWith (L.may_read lists.old) received before after standing
+        (λ before after standing. ExchangesWith service.now.access (L.may_read lists.old) received
+        before after standing
         writer.old.bytes writer.new.bytes result) }
     ensures kept { MayReadLess (L.may_read lists.old) (L.may_read lists.new) }
     // no byte is written without an answer, and only a failed write sets the flag of the writer
     ensures silent { is_silent result ≡ true → writer.new.bytes ≡ writer.old.bytes }
     ensures failed { Flags (fails_to_write result) writer.old writer.new }
 {
-    match receive(alloc, routes, has_lists, reader, writer) {
-        Ok(request) => respond(alloc, office, lists, &request, writer),
+    match receive(alloc, routes, service, reader, writer) {
+        Ok(asked) => respond_to(alloc, &service.access, office, lists, &asked, writer),
         Err(served) => served,
     }
 }
 
-/// Serves one exchange as [`serve_one`](crate::serve_one) does, of an office that also merges lists, if `has_lists`.
+/// Serves one exchange as [`serve_one`](crate::serve_one) does, of an office that also merges
+/// lists, if the service has them, and to those who may ask.
 ///
-/// The lists that a merge names are opened once the request has come and before the office is asked: the Sources list, and
-/// then those of its parts in their order. If one of them cannot be opened, the answer is the fault `NoList`, and if there
-/// is no memory for them the refusal `Memory`; the office is as it was. A list that breaks off later is refused as in
-/// [`merge_from`](MergeFrom::merge_from). No list is opened for any other request.
-/// Source: RFC 9112, section 9.3, for one exchange; the rest is this project's own.
+/// Who shows no key that the service knows is answered `NoKey` by the head of the request, and so
+/// is `NotAllowed` whose line has no right for the path, so that no body is read. Whose line has no
+/// right for what the body says is answered `NotAllowed` before the office is asked for anything
+/// but who holds the take number of a report; if that cannot be found out, the answer is `Memory`,
+/// `Store` or `Closed` as for a query. The office is as it was after each of these.
+///
+/// The lists that a merge names are opened once the request has come and before the office is
+/// asked: the Sources list, and then those of its parts in their order. If one of them cannot be
+/// opened, the answer is the fault `NoList`, and if there is no memory for them the refusal
+/// `Memory`; the office is as it was. A list that breaks off later is refused as in
+/// [`merge_from`](MergeFrom::merge_from). No list is opened for any other request. Source: RFC
+/// 9112, section 9.3, for one exchange; the rest is this project's own.
 pub fn serve_with_lists<O: MergeFrom, L: Lists, R: Read + Drop, W: Write + Drop>(
     alloc: Global,
     routes: &Routes,
-    has_lists: bool,
+    service: &Service,
     office: &mut O,
     lists: &mut L,
     reader: &mut WatchedReader<R>,
@@ -125,52 +170,54 @@ pub fn serve_with_lists<O: MergeFrom, L: Lists, R: Read + Drop, W: Write + Drop>
 ) -> Served
     // what was asked, done and answered, and which lists were opened
     ensures clean { O.is_clean office.new → O.is_clean office.old }
-    ensures value { (received : AnyReceived) × ReceivesWith has_lists reader.old reader.new received
+    ensures value { (received : AnyReceived) × ReceivesWith service.now reader.old reader.new received
         × (is_asked received ≡ false → office.new ≡ office.old)
         × (is_merge received ≡ false → lists.new ≡ lists.old)
         × LeadsOn O.is_clean O.is_closed O.stands_at O.leaves office.old office.new
-        (λ before after standing. ExchangesWith (L.may_read lists.old) received before after standing
+        (λ before after standing. ExchangesWith service.now.access (L.may_read lists.old) received
+        before after standing
         writer.old.bytes writer.new.bytes result) }
     ensures kept { MayReadLess (L.may_read lists.old) (L.may_read lists.new) }
-    // what an answer with status 200 to a command says, or a front of one; and to a merge, that one of what
-    // its lists may be read as stands
-    ensures acknowledged { (before : Machine) (input : List ℕ) (command : AnyCommand)
+    // what an answer with status 200 to a command says, or a front of one; and to a merge, that one
+    // of what its lists may be read as stands
+    ensures acknowledged { (before : Machine) (input : List ℕ) (shown : AnyShown) (command : AnyCommand)
         → O.is_clean office.new → O.stands_at office.old before → reader.old.bytes ≡ Some input
-        → MeansWith has_lists input (Asked (asked_Command command)) → TellsOk result
+        → MeansWith service.now input (Asked shown (asked_Command command)) → TellsOk result
         → IsOk (step before command).0 × O.stands_at office.new (step before command).1 }
-    ensures merged { (before : Machine) (input : List ℕ) (names : AnyNames)
+    ensures merged { (before : Machine) (input : List ℕ) (shown : AnyShown) (names : AnyNames)
         → O.is_clean office.new → O.stands_at office.old before → reader.old.bytes ≡ Some input
-        → MeansWith has_lists input (Asked (asked_Merge names)) → TellsOk result
+        → MeansWith service.now input (Asked shown (asked_Merge names)) → TellsOk result
         → (command : AnyCommand) × MayReadMerge (L.may_read lists.old) names.sources names.parts command
         × IsOk (step before command).0 × O.stands_at office.new (step before command).1 }
     // no byte is written without an answer, and only a failed write sets the flag of the writer
     ensures silent { is_silent result ≡ true → writer.new.bytes ≡ writer.old.bytes }
     ensures failed { Flags (fails_to_write result) writer.old writer.new }
 {
-    exchange(alloc, routes, has_lists, office, lists, reader, writer)
+    exchange(alloc, routes, service, office, lists, reader, writer)
 }
 
 // An answer takes memory here alone, since it is kept until the client takes it. If there is none,
 // the client gets a front, as after a failed write. An answer that is written to the socket at once
 // would have all others wait.
-/// Serves one exchange over the bytes of a request that has come, as [`serve_with_lists`] does over a reader: how it
-/// ended, and the bytes of the answer. If there is no memory for all of these, it ended with a failed write, and they are
-/// a front.
-/// Source: RFC 9112, section 9.3, for one exchange; the rest is this project's own.
+/// Serves one exchange over the bytes of a request that has come, as [`serve_with_lists`] does over
+/// a reader: how it ended, and the bytes of the answer. If there is no memory for all of these, it
+/// ended with a failed write, and they are a front. Source: RFC 9112, section 9.3, for one
+/// exchange; the rest is this project's own.
 pub fn answer_with_lists<O: MergeFrom, L: Lists>(
     alloc: Global,
     routes: &Routes,
-    has_lists: bool,
+    service: &Service,
     office: &mut O,
     lists: &mut L,
     request: &[u8],
 ) -> (Served, Vec<u8>)
     ensures clean { O.is_clean office.new → O.is_clean office.old }
-    ensures value { (received : AnyReceived) × MeansWith has_lists request.now received
+    ensures value { (received : AnyReceived) × MeansWith service.now request.now received
         × (is_asked received ≡ false → office.new ≡ office.old)
         × (is_merge received ≡ false → lists.new ≡ lists.old)
         × LeadsOn O.is_clean O.is_closed O.stands_at O.leaves office.old office.new
-        (λ before after standing. ExchangesWith (L.may_read lists.old) received before after standing
+        (λ before after standing. ExchangesWith service.now.access (L.may_read lists.old) received
+        before after standing
         (Some []) (Some result.1.items) result.0) }
     ensures kept { MayReadLess (L.may_read lists.old) (L.may_read lists.new) }
 {
@@ -179,7 +226,7 @@ pub fn answer_with_lists<O: MergeFrom, L: Lists>(
     let served = serve_with_lists(
         alloc,
         routes,
-        has_lists,
+        service,
         office,
         lists,
         &mut reader,

@@ -17,8 +17,8 @@ use wb_lists::{Lists, MergeLists, MergeNames, lists_of};
 use wb_states::{Refusal, Reply};
 use wb_streams::Fault;
 
-/// The answer to a merge that the office answered so. It is `None` if there is no memory for the reply and the merge was
-/// counted as accepted.
+/// The answer to a merge that the office answered so. It is `None` if there is no memory for the
+/// reply and the merge was counted as accepted.
 fn merged_answer(
     alloc: Global,
     is_counted: bool,
@@ -41,8 +41,9 @@ fn merged_answer(
     }
 }
 
-/// The answer to a merge of the lists of these names. They are opened first, in their order, and nothing is asked of the
-/// office if one of them cannot be opened. It is `None` if the merge was accepted and there is no memory for the reply.
+/// The answer to a merge of the lists of these names. They are opened first, in their order, and
+/// nothing is asked of the office if one of them cannot be opened. It is `None` if the merge was
+/// accepted and there is no memory for the reply.
 pub(crate) fn answer_merge<O: MergeFrom, L: Lists>(
     alloc: Global,
     office: &mut O,

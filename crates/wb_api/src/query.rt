@@ -1,5 +1,6 @@
-//! The answers to queries as compact JSON, with the keys of each object in byte order. The text of a list is written
-//! record by record, so that no more than one of them is there as a value at a time.
+//! The answers to queries as compact JSON, with the keys of each object in byte order. The text of
+//! a list is written record by record, so that no more than one of them is there as a value at a
+//! time.
 ghost use Rattle.std.specs.Prelude.{◌≡◌, ◌++◌, codes, decimal, false, IfOk, OnOk};
 ghost use Rattle.std.specs.String.{string_bytes};
 ghost use Rattle.json.specs.Print.{quoted};
@@ -23,15 +24,16 @@ use wb_states::{Answer, KeyedRecord, OsCpu, State, StateCounts};
 
 /// The answer to a query as one JSON object (RFC 8259), with no space and no line feed.
 ///
-/// The answer to `item` is the record. That to `mine` has the builder and its records, in the order of their
-/// take numbers; that to `by-state` the architecture, the state and its records, in the order of their names;
-/// and that to `queue` the architecture and the records that wait there, the first to be built first. A record
-/// has under `build` the version of the binaries: the source version, followed by `+bN` for a binary-only
-/// rebuild N. A missing holder or take number is `null`. A record of a queue has this version and its source
-/// package alone. The answer to `depends` has what the source package needs to be built, or `null` if it could
-/// not be read; only there is it shown. That to `summary` has the number of records of each state under its
-/// name, and how many commands the office accepted. That to `office` has this number, and the last
-/// take number that was given; that to `archs` this number and each architecture with its words, by
+/// The answer to `item` is the record. That to `mine` has the builder and its records, in the order
+/// of their take numbers; that to `by-state` the architecture, the state and its records, in the
+/// order of their names; and that to `queue` the architecture and the records that wait there, the
+/// first to be built first. A record has under `build` the version of the binaries: the source
+/// version, followed by `+bN` for a binary-only rebuild N. A missing holder or take number is
+/// `null`. A record of a queue has this version and its source package alone. The answer to
+/// `depends` has what the source package needs to be built, or `null` if it could not be read; only
+/// there is it shown. That to `summary` has the number of records of each state under its name, and
+/// how many commands the office accepted. That to `office` has this number, and the last take
+/// number that was given; that to `archs` this number and each architecture with its words, by
 /// name; that to `builders` this number and each builder with an architecture for which it was
 /// added, by builder and then by architecture. Texts and numbers stand as in `reply_json`, and a
 /// build priority below 0 after a minus sign. The only error is that there is no memory for the

@@ -52,11 +52,11 @@ fn constant_text(refusal: &Refusal) -> Option<&'static str>
     }
 }
 
-/// A refusal as one JSON object (RFC 8259), with no space and no line feed: its number, its name and what
-/// what else it has, all under the keys of this project.
+/// A refusal as one JSON object (RFC 8259), with no space and no line feed: its number, its name
+/// and what what else it has, all under the keys of this project.
 ///
-/// The only error is that there is no memory for the text. The text of a refusal with only a number and a name is a
-/// constant, which takes no memory.
+/// The only error is that there is no memory for the text. The text of a refusal with only a number
+/// and a name is a constant, which takes no memory.
 pub fn try_refusal_json(alloc: Global, refusal: &Refusal) -> Result<CowStr<'static>, AllocError>
     ensures value { IfOk result (λ text. cow_str_bytes text ≡ refusal_text refusal.now) }
     ensures plain { is_plain refusal.now ≡ true
@@ -89,7 +89,8 @@ fn text_of_refusal(alloc: Global, refusal: &Refusal) -> Result<String, AllocErro
     value.to_string(alloc)
 }
 
-/// The name of what is wrong with relations: `Nothing` if there is no fault, but nothing of them is left.
+/// The name of what is wrong with relations: `Nothing` if there is no fault, but nothing of them is
+/// left.
 fn name_of_relations_fault(fault: &Option<RelationFault>) -> &'static str
     ensures { result.now ≡ name_of_relations_fault fault.now }
 {
@@ -156,7 +157,8 @@ fn value_of_report_fault(alloc: Global, line: u64) -> Result<Value, AllocError>
     json!(in alloc; {"code": 16u8, "line": line, "refused": "BadReport"})
 }
 
-/// The object of a fault in a paragraph of a list. It names the field if one is missing or malformed.
+/// The object of a fault in a paragraph of a list. It names the field if one is missing or
+/// malformed.
 fn value_of_listing_fault(
     alloc: Global,
     which: ListKind,

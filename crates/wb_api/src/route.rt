@@ -1,8 +1,10 @@
-//! The targets of requests (RFC 9112, section 3.2), and the parts of their paths (RFC 3986, section 3.3).
+//! The targets of requests (RFC 9112, section 3.2), and the parts of their paths (RFC 3986, section
+//! 3.3).
 ghost use Rattle.std.specs.Prelude.{◌≡◌, true, OnOk, IfErr, map};
 ghost use Rattle.wb_api.specs.Routes.{all_fit, decoded_text, part_at, query_of, route_at, row_of, with_all};
 ghost use Rattle.matchit.specs.declared.error.InsertError.TheVariants.{OutOfMemory};
 ghost use Rattle.wb_api.specs.Outcomes.{GivesOr};
+ghost use Rattle.wb_api.specs.Rights.{kind_of_body, kind_of_path};
 
 use crate::failure::RequestError;
 use deb_text::Text;
@@ -10,6 +12,7 @@ use matchit::{InsertError, Router};
 use percent_encoding::{DecodeError, percent_decode};
 use std::alloc::Global;
 use std::marker::Model;
+use wb_keys::Kind;
 use wb_states::Query;
 use wb_streams::Fault;
 
@@ -55,6 +58,43 @@ pub(crate) enum BodyKind {
     Command(CommandKind),
     /// The names of the lists of a merge.
     Merge,
+}
+
+impl CommandKind {
+    /// Whom its path is for.
+    fn kind(self) -> Kind
+        ensures value { result ≡ kind_of_path self }
+    {
+        match self {
+            CommandKind::AddArch | CommandKind::AddBuilder | CommandKind::Enter => Kind::Operator,
+            CommandKind::Next
+            | CommandKind::Take
+            | CommandKind::Built
+            | CommandKind::Uploaded
+            | CommandKind::Waits
+            | CommandKind::PutBack
+            | CommandKind::Attempted => Kind::Builder,
+            CommandKind::GiveBack
+            | CommandKind::DepWait
+            | CommandKind::Fail
+            | CommandKind::NotForUs
+            | CommandKind::Rebuild
+            | CommandKind::BuildPriority
+            | CommandKind::Report => Kind::Porter,
+        }
+    }
+}
+
+impl BodyKind {
+    /// Whom its path is for.
+    pub(crate) fn kind(self) -> Kind
+        ensures value { result ≡ kind_of_body self }
+    {
+        match self {
+            BodyKind::Command(command) => command.kind(),
+            BodyKind::Merge => Kind::Operator,
+        }
+    }
 }
 
 /// What a target is for.
@@ -103,8 +143,8 @@ static TABLE: [(&str, Route); 27] = [
     ("/v1/builders", Route::Query(QueryKind::Builders)),
 ];
 
-/// Adds the paths of a table to a router. The errors are those of `matchit` for a path that cannot be read or conflicts with
-/// another, and that there is no memory.
+/// Adds the paths of a table to a router. The errors are those of `matchit` for a path that cannot
+/// be read or conflicts with another, and that there is no memory.
 fn insert_all(router: &mut Router<Route>, table: &[(&str, Route)]) -> Result<(), InsertError>
     ensures value { OnOk result (router.new ≡ with_all router.old (map row_of table.now)) }
     ensures err { all_fit router.old (map row_of table.now) ≡ true → IfErr result (λ error. error ≡ OutOfMemory) }
@@ -118,9 +158,8 @@ fn insert_all(router: &mut Router<Route>, table: &[(&str, Route)]) -> Result<(),
     }
 }
 
-/// The paths that are served and what each is for, as one router. It is made once and lent to each exchange, so that no
-/// request needs memory to find what it is for.
-/// Source: this project's own.
+/// The paths that are served and what each is for, as one router. It is made once and lent to each
+/// exchange, so that no request needs memory to find what it is for. Source: this project's own.
 #[derive(Drop)]
 pub struct Routes {
     router: Router<Route>,
@@ -168,14 +207,16 @@ impl Routes {
 
 // Cut at the slashes, and not taken of `matchit`'s `Params::get`, which states what it gives only
 // where each part is UTF-8: a caller would have to prove that of the router's walk.
-/// The part of a target after so many slashes, as it is written; it is empty if there are not so many.
+/// The part of a target after so many slashes, as it is written; it is empty if there are not so
+/// many.
 fn part_at(target: &str, count: usize) -> &str
     ensures value { result.now ≡ part_at target.now count }
 {
     target.split('/').nth(count).unwrap_or("")
 }
 
-/// A part of a path, decoded once. The errors are that it is no UTF-8 then, and that memory ran out.
+/// A part of a path, decoded once. The errors are that it is no UTF-8 then, and that memory ran
+/// out.
 fn decoded(alloc: Global, part: &[u8]) -> Result<Text, RequestError>
     ensures value { GivesOr result (decoded_text part.now) }
 {

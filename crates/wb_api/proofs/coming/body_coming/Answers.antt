@@ -8,9 +8,9 @@ use Rattle.wb_api.proofs.coming.body_coming.Goals as goal
 pub returns-in-Ok-Body-clause-body : goal.returns-in-Ok-Body-clause-body
 returns-in-Ok-Body-clause-body c = λ total head e at.
     let wants = c.in-Ok-Body.ensures.value c.args.count head at in
-    let size : body_length (wanted_of_with c.args.has_lists head) ≡ c.in-Ok-Body.length =
+    let size : body_length (wanted_of_with c.args.service.now head) ≡ c.in-Ok-Body.length =
     ap body_length wants ∙ ap (λ w. body_length (Ok w)) c.in-Ok-Body.field-0-is in
-    let limit = wanted-limited c.args.has_lists head in
+    let limit = wanted-limited c.args.service.now head in
     let sum = c.args.count + c.in-Ok-Body.length in
     let fits : sum ≤ 18446744073709551615 = omega arith in
     let end : c.saturating_add.result ≡ sum = c.saturating_add.ensures ∙ min-eq_left fits in

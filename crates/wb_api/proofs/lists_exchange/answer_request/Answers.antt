@@ -1,9 +1,8 @@
 -- What may be answered to what was asked may be answered to the request.
 use Rattle.std.proofs.Common.{IfSome, ap, refl, subst, sym, ◌∙◌}
 use Rattle.std.proofs.lemmas.Bool.{false≢true}
-use Rattle.wb_api.specs.declared.request.Received.TheVariants as received
 use Rattle.wb_lists.proofs.ListLemmas.{MayReadLess-same}
-use Rattle.wb_api.specs.Exchange.{AsksFor, IsAnswerWith, LeadsOn, is_merge, response_of_answer}
+use Rattle.wb_api.specs.Exchange.{AsksFor, IsAnswerWith, LeadsOn, asks_merge, response_of_answer}
 use Rattle.wb_api.proofs.lists_exchange.answer_request.Goals as goal
 
 -- ---- a command
@@ -58,4 +57,4 @@ returns-in-Merge-clause-memory g c = λ e before clean stands.
 
 pub returns-in-Merge-clause-unopened : goal.returns-in-Merge-clause-unopened
 returns-in-Merge-clause-unopened g c = λ none.
-    absurd (false≢true (sym none ∙ ap (λ asked. is_merge (received.Asked asked)) c.in-Merge.is))
+    absurd (false≢true (sym none ∙ ap asks_merge c.in-Merge.is))

@@ -16,17 +16,17 @@ returns g c =
       kept = c.serve_with_lists-served.ensures.kept;
       value = (
         v.0,
-        subst (λ bytes. IfSome bytes (λ input. MeansWith c.args.has_lists input v.0)) came v.1.value,
+        subst (λ bytes. IfSome bytes (λ input. MeansWith c.args.service.now input v.0)) came v.1.value,
         v.2,
         v.3,
         subst (λ new. LeadsOn g.O.CarryOut.is_clean g.O.CarryOut.is_closed g.O.CarryOut.stands_at g.O.CarryOut.leaves
             c.args.office.now c.serve_with_lists-served.new.office (λ before after standing.
-            ExchangesWith may_read v.0 before after standing (Some []) new c.serve_with_lists-served.result))
+            ExchangesWith c.args.service.now.access may_read v.0 before after standing (Some []) new c.serve_with_lists-served.result))
             (sym written)
             (subst (λ old. LeadsOn g.O.CarryOut.is_clean g.O.CarryOut.is_closed g.O.CarryOut.stands_at
             g.O.CarryOut.leaves
             c.args.office.now c.serve_with_lists-served.new.office (λ before after standing.
-            ExchangesWith may_read v.0 before after standing old c.serve_with_lists-served.new.writer.bytes
+            ExchangesWith c.args.service.now.access may_read v.0 before after standing old c.serve_with_lists-served.new.writer.bytes
             c.serve_with_lists-served.result)) empty v.4),
       );
     }

@@ -8,26 +8,26 @@ use Rattle.wb_api.proofs.AcknowledgedLemmas.{exchange-done}
 use Rattle.wb_api.proofs.lists_exchange.serve_with_lists.Goals as goal
 
 pub returns-clause-acknowledged : goal.returns-clause-acknowledged
-returns-clause-acknowledged g c = λ before input command clean stands known asks tells.
+returns-clause-acknowledged g c = λ before input shown command clean stands known asks tells.
     let served = c.exchange.ensures.value in
-    let means = subst (λ bytes. IfSome bytes (λ all. MeansWith c.args.has_lists all served.0)) known served.1.value in
-    let decided = head_decides c.args.has_lists input asks.0 asks.1 served.0 asks.2 means in
+    let means = subst (λ bytes. IfSome bytes (λ all. MeansWith c.args.service.now all served.0)) known served.1.value in
+    let decided = head_decides c.args.service.now input asks.0 asks.1 served.0 asks.2 means in
     let answers = subst (λ what. Answers what served.0) asks.3 decided in
     let did = served.4 before clean stands in
-    let done = exchange-done (g.L.Lists.may_read c.args.lists.now) served.0 before did.0 did.1 _ _ c.exchange.result
+    let done = exchange-done c.args.service.now.access (g.L.Lists.may_read c.args.lists.now) served.0 before did.0 did.1 _ _ c.exchange.result
     (request.Command command) did.3.0 answers tells in
     let open_still = subst (λ standing. Stands g.O.CarryOut.is_closed g.O.CarryOut.stands_at g.O.CarryOut.leaves
     c.exchange.new.office did.0 standing) done.2 did.2 in
     (done.0, subst (λ machine. g.O.CarryOut.stands_at c.exchange.new.office machine) done.1 open_still)
 
 pub returns-clause-merged : goal.returns-clause-merged
-returns-clause-merged g c = λ before input names clean stands known asks tells.
+returns-clause-merged g c = λ before input shown names clean stands known asks tells.
     let served = c.exchange.ensures.value in
-    let means = subst (λ bytes. IfSome bytes (λ all. MeansWith c.args.has_lists all served.0)) known served.1.value in
-    let decided = head_decides c.args.has_lists input asks.0 asks.1 served.0 asks.2 means in
+    let means = subst (λ bytes. IfSome bytes (λ all. MeansWith c.args.service.now all served.0)) known served.1.value in
+    let decided = head_decides c.args.service.now input asks.0 asks.1 served.0 asks.2 means in
     let answers = subst (λ what. Answers what served.0) asks.3 decided in
     let did = served.4 before clean stands in
-    let done = exchange-done (g.L.Lists.may_read c.args.lists.now) served.0 before did.0 did.1 _ _ c.exchange.result
+    let done = exchange-done c.args.service.now.access (g.L.Lists.may_read c.args.lists.now) served.0 before did.0 did.1 _ _ c.exchange.result
     (request.Merge names) did.3.0 answers tells in
     let open_still = subst (λ standing. Stands g.O.CarryOut.is_closed g.O.CarryOut.stands_at g.O.CarryOut.leaves
     c.exchange.new.office did.0 standing) done.2.2 did.2 in (

@@ -1,26 +1,36 @@
 -- What was received is what the input means, and it was answered.
-use Rattle.std.proofs.Common.{ap, refl, subst, sym, ◌∙◌}
+use Rattle.std.proofs.Common.{ap, inl, refl, subst, sym, ◌∙◌}
 use Rattle.std.proofs.lemmas.Bool.{false≢true}
 use Rattle.wb_api.specs.declared.request.Received.TheVariants as received
+use Rattle.wb_keys.specs.Access.{everybody}
 use Rattle.wb_lists.specs.Lists.{no_lists}
 use Rattle.wb_step.specs.Offices.{Open}
 use Rattle.wb_streams.specs.Streams.{Flags, Stream}
-use Rattle.wb_api.specs.Exchange.{Exchanges, LeadsOn, Receives, fails_to_write}
+use Rattle.wb_api.specs.Exchange.{Exchanges, LeadsOn, ReceivesWith, fails_to_write}
 use Rattle.wb_api.proofs.ExchangeLemmas.{unasked-exchanges}
+use Rattle.wb_api.proofs.RightLemmas.{everybody-allowed}
 use Rattle.wb_api.proofs.serve.exchange.Goals as goal
 
 pub returns-in-Ok-clause-value : goal.returns-in-Ok-clause-value
 returns-in-Ok-clause-value g c =
     let came = c.in-Ok.ensures.value in (
-      received.Asked c.in-Ok.request,
-      subst (Receives c.args.reader.now c.receive.new.reader) came.2.0 came.1,
+      received.Asked c.in-Ok.asked.shown c.in-Ok.asked.request,
+      subst (ReceivesWith c.args.service.now c.args.reader.now c.receive.new.reader) came.2.0 came.1,
       λ e. absurd (false≢true (sym e)),
       subst (λ (writer : Stream). LeadsOn g.O.CarryOut.is_clean g.O.CarryOut.is_closed g.O.CarryOut.stands_at
           g.O.CarryOut.leaves
           c.args.office.now c.respond.new.office (λ before after standing.
-          Exchanges (received.Asked c.in-Ok.request) before after standing writer.bytes c.respond.new.writer.bytes
+          Exchanges (received.Asked c.in-Ok.asked.shown c.in-Ok.asked.request) before after standing writer.bytes c.respond.new.writer.bytes
           c.respond.result))
-          came.2.1 c.respond.ensures.value,
+          came.2.1 (λ before clean stands. let did = c.respond.ensures.value before clean stands in (
+            did.0,
+            did.1,
+            did.2,
+            (
+              inl (everybody-allowed c.in-Ok.asked.shown before c.in-Ok.asked.request, did.3.0),
+              did.3.1,
+            ),
+          )),
     )
 
 pub returns-in-Ok-clause-silent : goal.returns-in-Ok-clause-silent
@@ -43,7 +53,7 @@ returns-in-Err-clause-value g c =
         Open,
         stands,
         (
-          unasked-exchanges no_lists came.0 before _ _ c.in-Err.served (came.2 before),
+          unasked-exchanges everybody no_lists came.0 before _ _ c.in-Err.served (came.2 before),
           λ open_still. refl,
         ),
       ),

@@ -7,7 +7,7 @@ use Rattle.wb_api.proofs.serve.receive.Goals as goal
 
 pub returns-in-Asked-clause-value : goal.returns-in-Asked-clause-value
 returns-in-Asked-clause-value g c = (
-  received.Asked c.in-Asked.request,
+  received.Asked c.in-Asked.shown c.in-Asked.request,
   record {
     value = c.in-Asked.ensures.value;
     failed = c.in-Asked.ensures.failed;
