@@ -1,5 +1,5 @@
 -- Exchanges after exchanges.
-use Rattle.std.proofs.Common.{◌≡◌, ◌≢◌, ◌∙◌, ap, inl, inr, refl, subst, sym, Bool, List, [], ◌∷◌, ◌++◌, append_assoc}
+use Rattle.std.proofs.Common.{◌≡◌, ◌≢◌, ◌∙◌, ap, inl, inr, refl, subst, sym, List, [], ◌∷◌, ◌++◌, append_assoc}
 use Rattle.std.proofs.Common.{append-nil, Some}
 use Rattle.wb_lists.specs.Lists.{MayRead, MayReadLess}
 use Rattle.wb_lists.proofs.ListLemmas.{MayReadLess-same, MayReadLess-then}
@@ -8,21 +8,22 @@ use Rattle.wb_states.specs.declared.store_fault.StoreFault.{StoreFault}
 use Rattle.wb_step.specs.Offices.{Open, Stands}
 use Rattle.wb_api.proofs.MergeAnswerLemmas.{exchange-more}
 use Rattle.wb_api.specs.Exchange.{LeadsOn}
+use Rattle.wb_api.specs.declared.service.Service.{Service}
 use Rattle.wb_serve.specs.declared.clients.ServiceEnd.{ServiceEnd}
 use Rattle.wb_serve.specs.declared.clients.ServiceEnd.TheVariants.{Closed}
 use Rattle.wb_serve.specs.Exchanges.{Answered, AnswersAll, AnswersOne, AnswersWhile, AreAnswered, IsService, Serves}
 use Rattle.wb_serve.specs.Exchanges.{ServesAll, Serving}
 
-module _ {X L : Type 0} (has_lists : Bool) (may_read : L → MayRead) (is_clean is_closed : X → Type 0)
+module _ {X L : Type 0} (service : Service) (may_read : L → MayRead) (is_clean is_closed : X → Type 0)
     (stands_at : X → Machine → Type 0) (leaves : X → Machine → Machine → StoreFault → Type 0) where
   module _ (IsSo : X → Type 0) where
     -- exchanges one after another
     abbrev Are : List Answered → Serving X L → Serving X L → Type 0
-    Are xs a b = AreAnswered has_lists may_read is_clean is_closed stands_at leaves IsSo xs a b
+    Are xs a b = AreAnswered service may_read is_clean is_closed stands_at leaves IsSo xs a b
 
     -- what was answered grew by exchanges
     abbrev Grows : List Answered → List Answered → Serving X L → Serving X L → Type 0
-    Grows before after a b = AnswersWhile has_lists may_read is_clean is_closed stands_at leaves IsSo before after a b
+    Grows before after a b = AnswersWhile service may_read is_clean is_closed stands_at leaves IsSo before after a b
 
     -- ---- one after another
 
@@ -41,7 +42,7 @@ module _ {X L : Type 0} (has_lists : Bool) (may_read : L → MayRead) (is_clean 
 
     -- exchanges, and then one more or none
     pub AnswersWhile-then : (first middle last : List Answered) (a b c : Serving X L) → Grows first middle a b
-        → IsSo b.office → AnswersOne has_lists may_read is_clean is_closed stands_at leaves middle last b c
+        → IsSo b.office → AnswersOne service may_read is_clean is_closed stands_at leaves middle last b c
         → Grows first last a c
     AnswersWhile-then first middle last a b c all so (inl (same, kept)) =
         (all.0, same ∙ all.1, subst (λ end. Are all.0 a end) (sym kept) all.2)
@@ -71,7 +72,7 @@ module _ {X L : Type 0} (has_lists : Bool) (may_read : L → MayRead) (is_clean 
   -- lists might be read as at the start or before it
   pub served-leads : (from : MayRead) (xs : List Answered) (a b : Serving X L) → MayReadLess from (may_read a.lists)
       → Are (λ office. ¬ (is_closed office)) xs a b → LeadsOn is_clean is_closed stands_at leaves a.office b.office
-      (λ first found standing. Serves has_lists from xs first found standing)
+      (λ first found standing. Serves service from xs first found standing)
   served-leads from [] a b less served = λ before clean stands. (
     before,
     Open,
@@ -81,7 +82,7 @@ module _ {X L : Type 0} (has_lists : Bool) (may_read : L → MayRead) (is_clean 
   served-leads from (x ∷ []) a b less served = λ before clean stands.
       let between_clean = subst (λ serving. is_clean serving.office) served.3 clean in
       let one = served.2.leads before between_clean stands in
-      let did = exchange-more from (may_read a.lists) less served.2.received before one.0 one.1
+      let did = exchange-more from (may_read a.lists) less service.access served.2.received before one.0 one.1
       (Some []) (Some x.answer) served.2.ended one.3.0 in (
         one.0,
         one.1,
@@ -94,7 +95,7 @@ module _ {X L : Type 0} (has_lists : Bool) (may_read : L → MayRead) (is_clean 
   served-leads from (x ∷ y ∷ ys) a b less served = λ before clean stands.
       let between_clean = AreAnswered-clean (λ office. ¬ (is_closed office)) (y ∷ ys) served.1 b served.3 clean in
       let one = served.2.leads before between_clean stands in
-      let did = exchange-more from (may_read a.lists) less served.2.received before one.0 one.1
+      let did = exchange-more from (may_read a.lists) less service.access served.2.received before one.0 one.1
       (Some []) (Some x.answer) served.2.ended one.3.0 in
       let is_open = one.3.1 served.3.0 in
       let stands_on = subst (λ standing. Stands is_closed stands_at leaves served.1.office one.0 standing)
@@ -114,8 +115,8 @@ module _ {X L : Type 0} (has_lists : Bool) (may_read : L → MayRead) (is_clean 
 
   -- a service that ends while the office is open
   pub service-ends : (before after : List Answered) (a b : Serving X L) (ended : ServiceEnd)
-      → ServesAll has_lists may_read is_clean is_closed stands_at leaves before after a b → ended ≢ Closed
-      → IsService has_lists may_read is_clean is_closed stands_at leaves before after a b ended
+      → ServesAll service may_read is_clean is_closed stands_at leaves before after a b → ended ≢ Closed
+      → IsService service may_read is_clean is_closed stands_at leaves before after a b ended
   service-ends before after a b ended all other = record {
     more = all.0;
     late = [];
@@ -130,9 +131,9 @@ module _ {X L : Type 0} (has_lists : Bool) (may_read : L → MayRead) (is_clean 
 
   -- a service that ends since the office is closed, which then answers those who wait
   pub service-closes : (before middle last after : List Answered) (a b c : Serving X L) (ended : ServiceEnd)
-      → ServesAll has_lists may_read is_clean is_closed stands_at leaves before middle a b → is_closed b.office
-      → AnswersAll has_lists may_read is_clean is_closed stands_at leaves middle last b c → after ≡ last
-      → IsService has_lists may_read is_clean is_closed stands_at leaves before after a c ended
+      → ServesAll service may_read is_clean is_closed stands_at leaves before middle a b → is_closed b.office
+      → AnswersAll service may_read is_clean is_closed stands_at leaves middle last b c → after ≡ last
+      → IsService service may_read is_clean is_closed stands_at leaves before after a c ended
   service-closes before middle last after a b c ended all shut late same = record {
     more = all.0;
     late = late.0;

@@ -5,6 +5,7 @@ use Rattle.std.specs.Prelude.{None, Some}
 use Rattle.std.specs.Io.KnownBytes.{Appends, Consumes, IsAtEnd, Keeps}
 use Rattle.wb_api.specs.Coming.{IsSettledWith}
 use Rattle.wb_api.specs.Requests.{IsRequestFrontWith}
+use Rattle.wb_api.specs.declared.service.Service.{Service}
 use Rattle.wb_serve.specs.declared.connection.Stage.{Stage}
 use Rattle.wb_serve.specs.declared.connection.Stage.TheVariants as stage
 use Rattle.wb_serve.specs.declared.connection.Took.{Took}
@@ -63,27 +64,27 @@ Adds old new before after = (is_coming old.stage ≡ true)
 abbrev pub Rests : ConnectionState → ConnectionState → Option (List ℕ) → Option (List ℕ) → Type 0
 Rests old new before after = (new ≡ old) × Keeps before after
 
--- what a read gave, with lists or without: bytes, after which more of the request has to come; a request, or all that
--- comes; nothing; or a failure, which leaves the connection as it was. Only a connection of whose request more was to
--- come reads, and then waits for an answer
-abbrev pub IsRead : Bool → Took → ConnectionState → ConnectionState → Option (List ℕ) → Option (List ℕ) → Type 0
-IsRead has_lists took.Some old new before after =
-    Adds old new before after × (is_coming new.stage ≡ true) × IsRequestFrontWith has_lists new.bytes
-IsRead has_lists took.All old new before after =
-    Adds old new before after × (new.stage ≡ stage.Ready) × (IsSettledWith has_lists new.bytes ⊎ IsAtEnd after)
-IsRead has_lists took.Again old new before after = Rests old new before after
-IsRead has_lists took.Later old new before after = Rests old new before after
-IsRead has_lists took.Failed old new before after = (is_coming old.stage ≡ true) × (new ≡ old)
+-- what a read gave of a request to this service: bytes, after which more of the request has to come; a request, or all
+-- that comes; nothing; or a failure, which leaves the connection as it was. Only a connection of whose request more was
+-- to come reads, and then waits for an answer
+abbrev pub IsRead : Service → Took → ConnectionState → ConnectionState → Option (List ℕ) → Option (List ℕ) → Type 0
+IsRead service took.Some old new before after =
+    Adds old new before after × (is_coming new.stage ≡ true) × IsRequestFrontWith service new.bytes
+IsRead service took.All old new before after =
+    Adds old new before after × (new.stage ≡ stage.Ready) × (IsSettledWith service new.bytes ⊎ IsAtEnd after)
+IsRead service took.Again old new before after = Rests old new before after
+IsRead service took.Later old new before after = Rests old new before after
+IsRead service took.Failed old new before after = (is_coming old.stage ≡ true) × (new ≡ old)
 
 -- bytes were added to what had come, and more has to come or a request has come; or there is no memory for them
-abbrev pub IsAdded : Bool → Took → ConnectionState → ConnectionState → List ℕ → Type 0
-IsAdded has_lists took.Some old new came =
-    (new.bytes ≡ old.bytes ++ came) × (is_coming new.stage ≡ true) × IsRequestFrontWith has_lists new.bytes
-IsAdded has_lists took.All old new came =
-    (new.bytes ≡ old.bytes ++ came) × (new.stage ≡ stage.Ready) × IsSettledWith has_lists new.bytes
-IsAdded has_lists took.Again old new came = ⊥
-IsAdded has_lists took.Later old new came = ⊥
-IsAdded has_lists took.Failed old new came = new ≡ old
+abbrev pub IsAdded : Service → Took → ConnectionState → ConnectionState → List ℕ → Type 0
+IsAdded service took.Some old new came =
+    (new.bytes ≡ old.bytes ++ came) × (is_coming new.stage ≡ true) × IsRequestFrontWith service new.bytes
+IsAdded service took.All old new came =
+    (new.bytes ≡ old.bytes ++ came) × (new.stage ≡ stage.Ready) × IsSettledWith service new.bytes
+IsAdded service took.Again old new came = ⊥
+IsAdded service took.Later old new came = ⊥
+IsAdded service took.Failed old new came = new ≡ old
 
 -- so many bytes of an answer were written, and then the next
 abbrev pub WritesNext : ConnectionState → ConnectionState → Option (List ℕ) → Option (List ℕ) → Type 0

@@ -11,7 +11,7 @@ use std::alloc::Global;
 use std::io::{ErrorKind, Read};
 use std::net::Shutdown;
 use std::time::Duration;
-use wb_api::Routes;
+use wb_api::{Routes, Service};
 
 // One deadline for all that a client sends and is sent. A limit on each read lets a client that
 // sends a byte in time keep its connection for days.
@@ -66,8 +66,6 @@ pub(crate) struct Shared<'a> {
     pub(crate) alloc: Global,
     /// The paths that are served.
     pub(crate) routes: &'a Routes,
-    /// Whether lists are served, so that a merge has a path.
-    pub(crate) has_lists: bool,
     /// Where what is read lies until it is kept.
     pub(crate) buffer: Vec<u8>,
     /// How many bytes more the requests that are not small may have together.
@@ -221,7 +219,7 @@ impl Client {
     }
 
     /// The steps of a turn. None of them gives it an answer.
-    pub(crate) fn steps(&mut self, shared: &mut Shared<'_>) -> Next
+    pub(crate) fn steps(&mut self, service: &Service, shared: &mut Shared<'_>) -> Next
         ensures given { IsNotGiven (given_of self.old.connection)
             (given_of self.new.connection) }
     {
@@ -229,7 +227,7 @@ impl Client {
             return self.overdue();
         }
         for _ in 0..STEPS {
-            let next = self.step(shared);
+            let next = self.step(service, shared);
             if next != Next::Again {
                 return next;
             }
@@ -250,7 +248,7 @@ impl Client {
     }
 
     /// One step, with one call of the system at most.
-    fn step(&mut self, shared: &mut Shared<'_>) -> Next
+    fn step(&mut self, service: &Service, shared: &mut Shared<'_>) -> Next
         ensures given { IsNotGiven (given_of self.old.connection)
             (given_of self.new.connection) }
     {
@@ -258,15 +256,15 @@ impl Client {
             return self.drain(shared, dropped);
         }
         match self.connection.stage() {
-            Stage::Head => self.read(shared),
-            Stage::Body(total) => self.read_body(shared, total),
+            Stage::Head => self.read(service, shared),
+            Stage::Body(total) => self.read_body(service, shared, total),
             Stage::Ready => Next::Wait,
             Stage::Answer(_) => self.write(shared),
         }
     }
 
     /// Reads what comes of the request.
-    fn read(&mut self, shared: &mut Shared<'_>) -> Next
+    fn read(&mut self, service: &Service, shared: &mut Shared<'_>) -> Next
         ensures given { IsNotGiven (given_of self.old.connection)
             (given_of self.new.connection) }
     {
@@ -275,11 +273,10 @@ impl Client {
         }
         let alloc = shared.alloc;
         let routes = shared.routes;
-        let has_lists = shared.has_lists;
         let took = self.connection.read_from(
             alloc,
             routes,
-            has_lists,
+            service,
             &mut self.stream,
             &mut shared.buffer,
         );
@@ -299,14 +296,14 @@ impl Client {
     }
 
     /// Reads the rest of a request of this many bytes, once there is memory for all of them.
-    fn read_body(&mut self, shared: &mut Shared<'_>, total: usize) -> Next
+    fn read_body(&mut self, service: &Service, shared: &mut Shared<'_>, total: usize) -> Next
         ensures given { IsNotGiven (given_of self.old.connection)
             (given_of self.new.connection) }
     {
         if self.held.is_none() && !self.reserve(shared, total) {
             return Next::Wait;
         }
-        self.read(shared)
+        self.read(service, shared)
     }
 
     // The whole length is taken before the body is read: if bytes were counted as they come, many

@@ -6,7 +6,7 @@ ghost use Rattle.wb_serve.specs.Exchanges.{Answered, AnswersAll, AnswersOne, IsS
 ghost use Rattle.wb_serve.specs.Places.{IsNotGiven};
 
 use std::alloc::Global;
-use wb_api::{Routes, Served, answer_with_lists};
+use wb_api::{Routes, Served, Service, answer_with_lists};
 use wb_archive::MergeFrom;
 use wb_lists::Lists;
 
@@ -19,6 +19,9 @@ pub const PLACES: usize = 256;
 pub enum Turn {
     /// Some may wait for an answer.
     Go,
+    /// What is served is to be looked up anew, as when keys were changed. Those that wait for an
+    /// answer still do.
+    Renewed,
     /// All that were to be served have been, and have gone.
     Done,
     /// No more can be heard or let in.
@@ -29,6 +32,8 @@ pub enum Turn {
 /// Source: this project's own.
 #[derive(Clone, Copy, Debug, PartialEq, Eq)]
 pub enum ServiceEnd {
+    /// What is served is to be looked up anew. The clients wait for the next service.
+    Renewed,
     /// All clients that were to be served have been.
     Done,
     /// Clients could no longer be heard or let in.
@@ -54,9 +59,9 @@ pub trait Clients {
     // The answer that the client at a place has, from when it is given until it is written whole.
     ghost given: { Self → ℕ → Option (List ℕ) };
 
-    /// Waits until clients can go on, reads what they sent, writes what they take, and lets new
-    /// ones in.
-    fn turn(&mut self) -> Turn
+    /// Waits until clients of this service can go on, reads what they sent, writes what they take,
+    /// and lets new ones in.
+    fn turn(&mut self, service: &Service) -> Turn
         ensures answered { answered self.new ≡ answered self.old }
         ensures given { (place : ℕ) → IsNotGiven (given self.old place) (given self.new place) };
 
@@ -80,14 +85,14 @@ pub trait Clients {
             → (asked self.new other ≡ asked self.old other)
             × (given self.new other ≡ given self.old other) };
 
-    /// Writes what the client at this place takes of its answer at once.
-    fn send(&mut self, place: usize)
+    /// Writes what the client of this service at this place takes of its answer at once.
+    fn send(&mut self, service: &Service, place: usize)
         ensures answered { answered self.new ≡ answered self.old }
         ensures given { (other : ℕ) → IsNotGiven (given self.old other) (given self.new other) };
 
-    /// Lets no more clients in, and waits until those that have an answer have taken it, or had
-    /// their time for it.
-    fn finish(&mut self)
+    /// Lets no more clients of this service in, and waits until those that have an answer have
+    /// taken it, or had their time for it.
+    fn finish(&mut self, service: &Service)
         ensures answered { answered self.new ≡ answered self.old }
         ensures given { (place : ℕ) → IsNotGiven (given self.old place) (given self.new place) };
 }
@@ -96,13 +101,13 @@ pub trait Clients {
 fn answer_place<O: MergeFrom, L: Lists, C: Clients>(
     alloc: Global,
     routes: &Routes,
-    has_lists: bool,
+    service: &Service,
     office: &mut O,
     lists: &mut L,
     clients: &mut C,
     place: usize,
 )
-    ensures value { AnswersOne has_lists L.may_read O.is_clean O.is_closed O.stands_at O.leaves
+    ensures value { AnswersOne service.now L.may_read O.is_clean O.is_closed O.stands_at O.leaves
         (C.answered clients.old) (C.answered clients.new)
         (record { office = office.old; lists = lists.old })
         (record { office = office.new; lists = lists.new }) }
@@ -110,9 +115,9 @@ fn answer_place<O: MergeFrom, L: Lists, C: Clients>(
     let Some(request) = clients.request(place) else {
         return;
     };
-    let (served, answer) = answer_with_lists(alloc, routes, has_lists, office, lists, request);
+    let (served, answer) = answer_with_lists(alloc, routes, service, office, lists, request);
     clients.answer(place, served, answer);
-    clients.send(place);
+    clients.send(service, place);
 }
 
 /// Has the office answer each client that waits for an answer, once, until it is closed, or no
@@ -120,12 +125,12 @@ fn answer_place<O: MergeFrom, L: Lists, C: Clients>(
 fn answer_all<O: MergeFrom, L: Lists, C: Clients>(
     alloc: Global,
     routes: &Routes,
-    has_lists: bool,
+    service: &Service,
     office: &mut O,
     lists: &mut L,
     clients: &mut C,
 )
-    ensures value { ServesAll has_lists L.may_read O.is_clean O.is_closed O.stands_at O.leaves
+    ensures value { ServesAll service.now L.may_read O.is_clean O.is_closed O.stands_at O.leaves
         (C.answered clients.old) (C.answered clients.new)
         (record { office = office.old; lists = lists.old })
         (record { office = office.new; lists = lists.new }) }
@@ -134,7 +139,7 @@ fn answer_all<O: MergeFrom, L: Lists, C: Clients>(
         if office.closed() || !clients.has_room() {
             return;
         }
-        answer_place(alloc, routes, has_lists, office, lists, clients, place);
+        answer_place(alloc, routes, service, office, lists, clients, place);
     }
 }
 
@@ -143,18 +148,18 @@ fn answer_all<O: MergeFrom, L: Lists, C: Clients>(
 fn answer_late<O: MergeFrom, L: Lists, C: Clients>(
     alloc: Global,
     routes: &Routes,
-    has_lists: bool,
+    service: &Service,
     office: &mut O,
     lists: &mut L,
     clients: &mut C,
 )
-    ensures value { AnswersAll has_lists L.may_read O.is_clean O.is_closed O.stands_at O.leaves
+    ensures value { AnswersAll service.now L.may_read O.is_clean O.is_closed O.stands_at O.leaves
         (C.answered clients.old) (C.answered clients.new)
         (record { office = office.old; lists = lists.old })
         (record { office = office.new; lists = lists.new }) }
 {
     for place in 0..PLACES {
-        answer_place(alloc, routes, has_lists, office, lists, clients, place);
+        answer_place(alloc, routes, service, office, lists, clients, place);
     }
 }
 
@@ -163,37 +168,39 @@ fn answer_late<O: MergeFrom, L: Lists, C: Clients>(
 /// Serves the clients of an office until all that were to be served have been, clients can no
 /// longer be heard, or the office is closed. Each is answered once its request has come, by one
 /// exchange as [`answer_with_lists`] has it, and no byte of an answer is given out before its
-/// exchange has ended. A merge has a path only if `has_lists`, and its lists are opened when its
-/// turn comes. Those whose requests have come when the office is closed are still answered.
+/// exchange has ended. The lists of a merge are opened when its turn comes. If what is served is to
+/// be looked up anew, the service ends, and the same clients may be served by the next. Those whose
+/// requests have come when the office is closed are still answered.
 /// Source: this project's own.
 pub fn serve_clients<O: MergeFrom, L: Lists, C: Clients>(
     alloc: Global,
     routes: &Routes,
-    has_lists: bool,
+    service: &Service,
     office: &mut O,
     lists: &mut L,
     clients: &mut C,
 ) -> ServiceEnd
     // each answer is that of an exchange over what had come of that request, in the order of the
     // exchanges
-    ensures value { IsService has_lists L.may_read O.is_clean O.is_closed O.stands_at O.leaves
+    ensures value { IsService service.now L.may_read O.is_clean O.is_closed O.stands_at O.leaves
         (C.answered clients.old) (C.answered clients.new)
         (record { office = office.old; lists = lists.old })
         (record { office = office.new; lists = lists.new }) result }
 {
     for _ in 0..u64::MAX {
-        match clients.turn() {
+        match clients.turn(service) {
             Turn::Go => {}
+            Turn::Renewed => return ServiceEnd::Renewed,
             Turn::Done => return ServiceEnd::Done,
             Turn::Stopped => {
-                clients.finish();
+                clients.finish(service);
                 return ServiceEnd::Stopped;
             }
         }
-        answer_all(alloc, routes, has_lists, office, lists, clients);
+        answer_all(alloc, routes, service, office, lists, clients);
         if office.closed() {
-            answer_late(alloc, routes, has_lists, office, lists, clients);
-            clients.finish();
+            answer_late(alloc, routes, service, office, lists, clients);
+            clients.finish(service);
             return ServiceEnd::Closed;
         }
     }

@@ -8,7 +8,7 @@ ghost use Rattle.wb_serve.specs.declared.connection.Stage.TheVariants.{Ready};
 use std::alloc::Global;
 use std::io::{ErrorKind, Read, Write};
 use std::marker::Model;
-use wb_api::{Coming, Routes, coming_of};
+use wb_api::{Coming, Routes, Service, coming_of};
 use wb_streams::HEAD_LIMIT;
 
 /// How far the exchange with a client is.
@@ -146,24 +146,24 @@ impl Connection {
 
     /// Reads once, through a buffer of one byte at least, unless the connection waits for its
     /// answer or has it. Nothing is read of what follows the request, but for what comes with the
-    /// last bytes of a head. A merge has a path only if `has_lists`.
+    /// last bytes of a head. What the request may be is up to the service.
     /// Source: RFC 9112, section 6.3; the limits are this project's own.
     pub fn read_from<R: Read>(
         &mut self,
         alloc: Global,
         routes: &Routes,
-        has_lists: bool,
+        service: &Service,
         reader: &mut R,
         buffer: &mut [u8],
     ) -> Took
-        ensures value { IsRead has_lists result self.old self.new
+        ensures value { IsRead service.now result self.old self.new
             (R.remaining reader.old) (R.remaining reader.new) }
     {
         let left = self.left().min(buffer.len());
         if left == 0 {
             return Took::Later;
         }
-        self.read_into(alloc, routes, has_lists, reader, &mut buffer[..left])
+        self.read_into(alloc, routes, service, reader, &mut buffer[..left])
     }
 
     /// Reads once, at most as much as there is room for. More of the request has to come.
@@ -171,13 +171,13 @@ impl Connection {
         &mut self,
         alloc: Global,
         routes: &Routes,
-        has_lists: bool,
+        service: &Service,
         reader: &mut R,
         room: &mut [u8],
     ) -> Took
         requires room { 0 < length room.old }
         requires coming { is_coming self.old.stage ≡ true }
-        ensures value { IsRead has_lists result self.old self.new
+        ensures value { IsRead service.now result self.old self.new
             (R.remaining reader.old) (R.remaining reader.new) }
     {
         match reader.read(room) {
@@ -185,7 +185,7 @@ impl Connection {
                 self.stage = Stage::Ready;
                 Took::All
             }
-            Ok(count) => self.add(alloc, routes, has_lists, &room[..count]),
+            Ok(count) => self.add(alloc, routes, service, &room[..count]),
             Err(error) => match error.kind() {
                 ErrorKind::WouldBlock => Took::Later,
                 ErrorKind::Interrupted => Took::Again,
@@ -195,13 +195,13 @@ impl Connection {
     }
 
     /// Adds bytes to what has come, and looks whether a request has.
-    fn add(&mut self, alloc: Global, routes: &Routes, has_lists: bool, came: &[u8]) -> Took
-        ensures value { IsAdded has_lists result self.old self.new came.now }
+    fn add(&mut self, alloc: Global, routes: &Routes, service: &Service, came: &[u8]) -> Took
+        ensures value { IsAdded service.now result self.old self.new came.now }
     {
         if self.bytes.extend_from_slice(came).is_err() {
             return Took::Failed;
         }
-        match coming_of(alloc, routes, has_lists, self.bytes.as_slice()) {
+        match coming_of(alloc, routes, service, self.bytes.as_slice()) {
             Coming::Head => {
                 self.stage = Stage::Head;
                 Took::Some

@@ -9,7 +9,7 @@ use crate::remarks::Remark;
 use crate::sockets::Sockets;
 use mio::net::TcpListener;
 use std::io;
-use wb_api::{Routes, Served};
+use wb_api::{Routes, Served, Service};
 
 /// The clients behind the sockets of a port, and the answers that they were given.
 /// Source: this project's own.
@@ -23,14 +23,12 @@ pub struct Network<'a> {
 }
 
 impl<'a> Network<'a> {
-    /// The clients that connect to a port from now on: so many, or without a number all. They may
-    /// ask for a merge if `has_lists`. The errors are those of the system, and that there is no
-    /// memory for their places.
+    /// The clients that connect to a port from now on: so many, or without a number all. The errors
+    /// are those of the system, and that there is no memory for their places.
     /// Source: this project's own.
     pub fn new(
         rt: &'a HostRuntime,
         routes: &'a Routes,
-        has_lists: bool,
         listener: &'a TcpListener,
         count: Option<u32>,
     ) -> io::Result<Network<'a>> {
@@ -39,7 +37,7 @@ impl<'a> Network<'a> {
             None => u64::MAX,
         };
         Ok(Network {
-            sockets: Sockets::new(rt, routes, has_lists, listener, limit)?,
+            sockets: Sockets::new(rt, routes, listener, limit)?,
             history: History::new(),
             served: Served::Nothing,
             length: 0,
@@ -54,8 +52,8 @@ impl<'a> Clients for Network<'a> {
 
     ghost given = { λ n place. given_by (slice_get n.sockets.places.items place) };
 
-    fn turn(&mut self) -> Turn {
-        self.sockets.turn()
+    fn turn(&mut self, service: &Service) -> Turn {
+        self.sockets.turn(service)
     }
 
     fn has_room(&self) -> bool {
@@ -80,15 +78,16 @@ impl<'a> Clients for Network<'a> {
         }
     }
 
-    fn send(&mut self, place: usize) {
+    fn send(&mut self, service: &Service, place: usize) {
         if let Some(remark) = remark_of(self.served) {
             self.sockets.remark(remark);
         }
-        self.sockets.send(place, code_of(self.served), self.length);
+        self.sockets
+            .send(service, place, code_of(self.served), self.length);
     }
 
-    fn finish(&mut self) {
-        self.sockets.finish();
+    fn finish(&mut self, service: &Service) {
+        self.sockets.finish(service);
     }
 }
 

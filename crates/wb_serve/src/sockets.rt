@@ -14,7 +14,7 @@ use std::alloc::Global;
 use std::io::{self, ErrorKind};
 use std::os::fd::AsRawFd;
 use std::time::{Duration, Instant};
-use wb_api::Routes;
+use wb_api::{Routes, Service};
 
 /// How many bytes the requests that are not small have together at most.
 const ROOM: usize = 67_108_864;
@@ -57,7 +57,8 @@ pub(crate) struct Sockets<'a> {
     shared: Shared<'a>,
     remarks: Remarks<'a>,
     start: Instant,
-    /// How much of the time since then was taken by long exchanges, which clients do not answer for.
+    /// How much of the time since then was taken by long exchanges, which clients do not answer
+    /// for.
     held_up: Duration,
     /// How many connections are still to be accepted.
     left: u64,
@@ -82,7 +83,6 @@ impl<'a> Sockets<'a> {
     pub(crate) fn new(
         rt: &'a HostRuntime,
         routes: &'a Routes,
-        has_lists: bool,
         listener: &'a TcpListener,
         left: u64,
     ) -> io::Result<Sockets<'a>> {
@@ -104,7 +104,6 @@ impl<'a> Sockets<'a> {
             shared: Shared {
                 alloc: rt.alloc(),
                 routes,
-                has_lists,
                 buffer: vec![in rt.alloc(); 0u8; BUFFER]?,
                 room: ROOM,
                 is_short: false,
@@ -127,7 +126,7 @@ impl<'a> Sockets<'a> {
 
     /// Waits until a client or a connection is ready, accepts connections, and has all clients
     /// step.
-    pub(crate) fn turn(&mut self) -> Turn
+    pub(crate) fn turn(&mut self, service: &Service) -> Turn
         ensures given { AreNotGiven self.old.places.items self.new.places.items }
     {
         if self.left == 0 && self.count == 0 {
@@ -144,7 +143,7 @@ impl<'a> Sockets<'a> {
             );
             return Turn::Stopped;
         }
-        self.step_all();
+        self.step_all(service);
         if self.is_sure {
             self.let_go();
         }
@@ -184,7 +183,7 @@ impl<'a> Sockets<'a> {
 
     /// Accepts no more connections, closes those without an answer, and waits until the others have
     /// theirs.
-    pub(crate) fn finish(&mut self)
+    pub(crate) fn finish(&mut self, service: &Service)
         ensures given { AreNotGiven self.old.places.items self.new.places.items }
     {
         self.left = 0;
@@ -197,7 +196,7 @@ impl<'a> Sockets<'a> {
             }
         }
         for _ in 0..u64::MAX {
-            if self.turn() != Turn::Go {
+            if self.turn(service) != Turn::Go {
                 break;
             }
         }
@@ -205,13 +204,13 @@ impl<'a> Sockets<'a> {
     }
 
     /// Has the client at this place, which has just got its answer of this status and length, step.
-    pub(crate) fn send(&mut self, index: usize, code: u16, length: usize)
+    pub(crate) fn send(&mut self, service: &Service, index: usize, code: u16, length: usize)
         ensures given { AreNotGiven self.old.places.items self.new.places.items }
     {
         self.release(index);
         self.note(index, code, length);
         self.look_at_clock();
-        let next = self.step(index);
+        let next = self.step(service, index);
         self.settle(index, next);
     }
 
@@ -434,23 +433,23 @@ impl<'a> Sockets<'a> {
         first.unwrap_or(PLACES)
     }
 
-    fn step_all(&mut self)
+    fn step_all(&mut self, service: &Service)
         ensures given { AreNotGiven self.old.places.items self.new.places.items }
     {
         self.busy = false;
         self.shared.is_short = false;
         for index in 0..PLACES {
-            let next = self.step(index);
+            let next = self.step(service, index);
             self.settle(index, next);
         }
     }
 
     /// The steps of the client at this place.
-    fn step(&mut self, index: usize) -> Next
+    fn step(&mut self, service: &Service, index: usize) -> Next
         ensures given { AreNotGiven self.old.places.items self.new.places.items }
     {
         match self.places.get_mut(index) {
-            Some(place) => steps(place, &mut self.shared),
+            Some(place) => steps(place, service, &mut self.shared),
             None => Next::Wait,
         }
     }
@@ -588,11 +587,11 @@ fn note(place: &mut Option<Client>, shared: &mut Shared<'_>, code: u16, length: 
 }
 
 /// The steps of the client at a place.
-fn steps(place: &mut Option<Client>, shared: &mut Shared<'_>) -> Next
+fn steps(place: &mut Option<Client>, service: &Service, shared: &mut Shared<'_>) -> Next
     ensures given { IsNotGiven (given_in place.old) (given_in place.new) }
 {
     match place {
-        Some(client) => client.steps(shared),
+        Some(client) => client.steps(service, shared),
         None => Next::Wait,
     }
 }

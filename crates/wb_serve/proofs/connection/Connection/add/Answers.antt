@@ -8,6 +8,6 @@ returns-in-Whole c = record {
   value = (
     search rules,
     refl,
-    subst (IsSettledWith c.args.has_lists) c.as_slice.ensures.value (c.in-Whole.ensures.whole refl),
+    subst (IsSettledWith c.args.service.now) c.as_slice.ensures.value (c.in-Whole.ensures.whole refl),
   );
 }
