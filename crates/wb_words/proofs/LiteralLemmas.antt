@@ -1,4 +1,5 @@
--- What a proof unfolds, beside clap's own, to compute what words ask for; a number, an integer and a part of a merge stay as they are.
+-- What a proof unfolds, beside clap's own, to compute what words ask for; a number, an integer and a part of a merge
+-- stay as they are.
 use Rattle.std.specs.Prelude.{⊤}
 use Rattle.wb_words.specs.Arguments.{integer_of, number_of, optional_number_of, parts_of, named_source_of, word_of}
 use Rattle.wb_words.specs.Arguments.{words_of}

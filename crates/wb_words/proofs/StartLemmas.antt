@@ -19,16 +19,16 @@ use Rattle.clap.specs.declared.error.kind.ErrorKind.TheVariants.{DisplayHelp, Ou
 use Rattle.clap.proofs.OnLiterals.{clap_on_literals}
 use Rattle.wb_words.specs.Start.{Asks, AsksNone, IsNoStart, Names, Starts, begin_with_query, begins_with_help}
 use Rattle.wb_words.specs.Start.{single_words, start_app, start_faults, start_words, store_in, subcommand_in}
-use Rattle.wb_words.specs.Start.{with_journal, with_lists}
+use Rattle.wb_words.specs.Start.{with_journal, with_service_paths}
 use Rattle.wb_words.specs.declared.start.Start.{Start}
 use Rattle.wb_words.specs.declared.start.Start.TheVariants.{Run, Serve, Ask, CarryOut, Help}
 
 start_app-free : is_simple_and_free start_app ≡ true
-unfolding with_journal with_lists start_app clap_on_literals
+unfolding with_journal with_service_paths start_app clap_on_literals
 start_app-free = refl
 
 start_app-simple : is_simple start_app ≡ true
-unfolding with_journal with_lists start_app clap_on_literals
+unfolding with_journal with_service_paths start_app clap_on_literals
 start_app-simple = refl
 
 -- an error that is no want of memory is one of the faults
@@ -76,7 +76,7 @@ subcommand_in-met app words read met e is found =
 pub starts-asked : (words : List Text) (start : Start) → begins_with_help words ≡ false → start_faults words ≡ []
     → Asks words (store_in words) (subcommand_in words) start → Starts words start
 starts-asked words (Run store journal) h faults asks = (h, faults, asks)
-starts-asked words (Serve store port requests journal lists) h faults asks = (h, faults, asks)
+starts-asked words (Serve store port requests journal lists keys) h faults asks = (h, faults, asks)
 starts-asked words (Ask store given) h faults asks = (h, faults, asks)
 starts-asked words (CarryOut store given) h faults asks = (h, faults, asks)
 starts-asked words Help h faults asks = absurd (never (subcommand_in words) asks)

@@ -20,12 +20,13 @@ use Rattle.wb_words.specs.declared.start.Start.TheVariants.{Run, Serve, Ask, Car
 unfoldable pub with_journal : App → App
 with_journal app = with_arguments app ((codes "journal", NamedWord) ∷ [])
 
--- a subcommand with the option `--lists`, which takes a word
-unfoldable pub with_lists : App → App
-with_lists app = with_arguments app ((codes "lists", NamedWord) ∷ [])
+-- a subcommand with the options `--lists` and `--keys`, each of which takes a word
+unfoldable pub with_service_paths : App → App
+with_service_paths app = with_arguments app ((codes "lists", NamedWord) ∷ (codes "keys", NamedWord) ∷ [])
 
--- the program's own command line: the option `--store`, which takes a word, the subcommands `run` and `serve`, which have the option `--journal`, those
--- of a line, and the options `--help` and `-h`; `serve` has the option `--lists`, too
+-- the program's own command line: the option `--store`, which takes a word, the subcommands `run` and `serve`, which
+-- have the option `--journal`, those of a line, and the options `--help` and `-h`; `serve` has the options `--lists`
+-- and `--keys`, too
 unfoldable pub start_app : App
 start_app = with_wb_usages (with_subcommand (with_subcommand (with_arguments (record (new_app (codes "wb")) {
   top = record ((new_app (codes "wb")).top) {
@@ -34,7 +35,7 @@ start_app = with_wb_usages (with_subcommand (with_subcommand (with_arguments (re
     subcommand_required = true;
   };
 }) ((codes "store", NamedWord) ∷ [])) (with_journal (new_app (codes "run"))).top)
-    (with_lists (with_journal serve_app)).top)
+    (with_service_paths (with_journal serve_app)).top)
 
 -- the first word is `help`
 abbrev pub begins_with_help : List Text → Bool
@@ -75,12 +76,17 @@ journal_in words = option_and_then (λ named. word_of (codes "journal") named.1)
 unfoldable pub lists_in : List Text → Option Text
 lists_in words = option_and_then (λ named. word_of (codes "lists") named.1) (subcommand_in words)
 
+-- the word after the option `--keys` of the subcommand, if it is given
+unfoldable pub keys_in : List Text → Option Text
+keys_in words = option_and_then (λ named. word_of (codes "keys") named.1) (subcommand_in words)
+
 -- the first of these words is a subcommand that asks the office
 abbrev pub begin_with_query : List Text → Bool
 begin_with_query [] = false
 begin_with_query (word ∷ words) = is_query word
 
--- the words of a single command, as they were borrowed, which do or do not begin with a query, and the subcommand neither runs nor serves
+-- the words of a single command, as they were borrowed, which do or do not begin with a query, and the subcommand
+-- neither runs nor serves
 pub record IsSingle (words : List Text) (named : Text × List Row) (given : List (Bor Text)) (is_asked : Bool) : Type 0 where
   pub words_are : map (λ word. word.now) given ≡ single_words words
   pub asks : begin_with_query (single_words words) ≡ is_asked
@@ -95,12 +101,16 @@ IsJournal named journal = option_map (λ file. file.now) journal ≡ word_of (co
 abbrev pub AreLists : Text × List Row → Option (Bor Text) → Type 0
 AreLists named lists = option_map (λ folder. folder.now) lists ≡ word_of (codes "lists") named.1
 
+-- the keys of a service stand in the file that its arguments name as such
+abbrev pub AreKeys : Text × List Row → Option (Bor Text) → Type 0
+AreKeys named keys = option_map (λ file. file.now) keys ≡ word_of (codes "keys") named.1
+
 -- a subcommand with its arguments asks for this, with the records in this file
 abbrev pub Names : List Text → Option Text → Text × List Row → Start → Type 0
 Names words file named (Run store journal) = (option_map (λ file. file.now) store ≡ file) × IsJournal named journal
     × (bytes_eq named.0 (codes "run") ≡ true)
-Names words file named (Serve store port requests journal lists) = (option_map (λ file. file.now) store ≡ file)
-    × IsJournal named journal × AreLists named lists × (service_named named ≡ Some (port, requests))
+Names words file named (Serve store port requests journal lists keys) = (option_map (λ file. file.now) store ≡ file)
+    × IsJournal named journal × AreLists named lists × AreKeys named keys × (service_named named ≡ Some (port, requests))
 Names words file named (Ask store given) = (option_map (λ file. file.now) store ≡ file) × IsSingle words named given.now true
 Names words file named (CarryOut store given) = (option_map (λ file. file.now) store ≡ file) × IsSingle words named given.now false
 Names words file named Help = ⊥
@@ -126,7 +136,8 @@ IsRead words start = (begins_with_help words ≡ false) × (start_faults words �
 -- the words ask for this
 abbrev pub Starts : List Text → Start → Type 0
 Starts words (Run store journal) = IsRead words (Run store journal)
-Starts words (Serve store port requests journal lists) = IsRead words (Serve store port requests journal lists)
+Starts words (Serve store port requests journal lists keys) =
+    IsRead words (Serve store port requests journal lists keys)
 Starts words (Ask store given) = IsRead words (Ask store given)
 Starts words (CarryOut store given) = IsRead words (CarryOut store given)
 Starts words Help = (begins_with_help words ≡ true) ⊎ IsAmong DisplayHelp (start_faults words)

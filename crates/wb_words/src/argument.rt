@@ -22,8 +22,8 @@ pub struct NamedSource {
     pub version: Text,
 }
 
-/// A copy of the word that was given for the argument `id`. The errors are `NoCommand` if no word was
-/// given, and `Memory` if there is no memory for the copy.
+/// A copy of the word that was given for the argument `id`. The errors are `NoCommand` if no word
+/// was given, and `Memory` if there is no memory for the copy.
 #[tactic(auto, using(crate::proofs::RowLemmas::row_laws), unfolding(crate::specs::Arguments::word_of))]
 pub(crate) fn word(alloc: Global, arguments: &ArgMatches<'_>, id: &str) -> Result<Text, WordsFault>
     ensures value { Reads (word_of id.now (rows_of (found_of arguments.now))) result }
@@ -32,7 +32,8 @@ pub(crate) fn word(alloc: Global, arguments: &ArgMatches<'_>, id: &str) -> Resul
     Ok(Text::copied(alloc, word)?)
 }
 
-/// The words with one space between each two. The only error is that there is no memory for the text.
+/// The words with one space between each two. The only error is that there is no memory for the
+/// text.
 #[tactic(auto, using(crate::proofs::ArgumentLemmas::argument_laws))]
 fn joined(alloc: Global, words: &[&str]) -> Result<Text, AllocError>
     ensures value { IfOk result (λ text. text ≡ joined (map (λ word. word.now) words.now)) }
@@ -61,7 +62,8 @@ pub(crate) fn number_in(text: &str) -> Option<u64>
     text.parse::<u64>().ok()
 }
 
-/// The number that was given for the argument `id`. The error is `NoCommand` if no number was given.
+/// The number that was given for the argument `id`. The error is `NoCommand` if no number was
+/// given.
 #[tactic(auto, using(crate::proofs::RowLemmas::row_laws), unfolding(crate::specs::Arguments::word_of, crate::specs::Arguments::number_of))]
 pub(crate) fn number(arguments: &ArgMatches<'_>, id: &str) -> Result<u64, WordsFault>
     ensures value { Reads (number_of id.now (rows_of (found_of arguments.now))) result }
@@ -95,7 +97,8 @@ fn integer_in(text: &str) -> Option<i64>
     text.parse::<i64>().ok()
 }
 
-/// The integer that was given for the argument `id`. The error is `NoCommand` if no integer was given.
+/// The integer that was given for the argument `id`. The error is `NoCommand` if no integer was
+/// given.
 #[tactic(auto, using(crate::proofs::RowLemmas::row_laws), unfolding(crate::specs::Arguments::word_of, crate::specs::Arguments::integer_of))]
 pub(crate) fn integer(arguments: &ArgMatches<'_>, id: &str) -> Result<i64, WordsFault>
     ensures value { Reads (integer_of id.now (rows_of (found_of arguments.now))) result }

@@ -50,8 +50,8 @@ pub static USAGES: [(&str, &[(&str, ArgumentKind)]); 7] = [
 ];
 
 /// The builder's command `name` with these arguments. The errors are `NoCommand` if `name` is no
-/// subcommand of builders, an argument was not given, or a take number is no number; and `Memory` if
-/// there is no memory for its texts.
+/// subcommand of builders, an argument was not given, or a take number is no number; and `Memory`
+/// if there is no memory for its texts.
 #[tactic(auto, unfolding(crate::specs::Words::builder_command))]
 pub(crate) fn builder_command(
     alloc: Global,

@@ -42,8 +42,8 @@ fn end_in_negative(words: &[&str]) -> bool
 // means anything else; examples and `tools/tests/test_words.py` show it, and no law says it of all
 // lines. With `allow_negative_numbers` `clap` no longer states which word goes to which argument,
 // on which `invocation_of` and `start_of` rest.
-/// Whether the subcommand of the words is `build-priority`, the last word is a negative number, and no word is `--`.
-/// `clap` would take that word for an option.
+/// Whether the subcommand of the words is `build-priority`, the last word is a negative number, and
+/// no word is `--`. `clap` would take that word for an option.
 #[tactic(auto, unfolding(crate::specs::Escapes::has_negative_value))]
 pub(crate) fn has_negative_value(words: &[&str]) -> bool
     ensures value { result ≡ has_negative_value (map (λ word. word.now) words.now) }

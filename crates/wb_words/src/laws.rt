@@ -14,7 +14,7 @@ ghost use Rattle.wb_states.specs.Forms.{Uploaded, Waits};
 ghost use Rattle.wb_states.specs.declared.query.Query.TheVariants as query;
 ghost use Rattle.wb_words.specs.Arguments.{integer_in, joined, number_in, parts_in};
 ghost use Rattle.wb_words.specs.Start.{IsNoStart, Starts, begin_with_query};
-ghost use Rattle.wb_words.specs.Start.{journal_in, lists_in, single_words};
+ghost use Rattle.wb_words.specs.Start.{journal_in, keys_in, lists_in, single_words};
 ghost use Rattle.wb_words.specs.Start.{start_faults, store_in};
 ghost use Rattle.wb_words.specs.Usages.{usage_named, wb_usages};
 ghost use Rattle.wb_words.specs.Words.{command_named, invocation_by, invocation_in, IsQuery};
@@ -64,8 +64,8 @@ pub fn builder_lines_are_commands()
         ≡ Some (Command (Attempted 1 [])) }
 {}
 
-/// Each subcommand that asks the office is a query. A state's name is taken as it came: the office refuses
-/// one that no state has.
+/// Each subcommand that asks the office is a query. A state's name is taken as it came: the office
+/// refuses one that no state has.
 pub fn query_lines_are_queries()
     // of an architecture
     ensures queue { invocation_by (codes "queue amd64")
@@ -96,8 +96,8 @@ pub fn query_lines_are_queries()
     ensures option { invocation_by (codes "queue -a") ≡ None }
 {}
 
-/// A merge names the file of the Sources list, and then parts. Each part is cut at its first `=`. Its
-/// architecture may be empty here: the office refuses that.
+/// A merge names the file of the Sources list, and then parts. Each part is cut at its first `=`.
+/// Its architecture may be empty here: the office refuses that.
 pub fn merge_lines_name_files()
     ensures one { invocation_by (codes "merge S amd64=P")
         ≡ Some (Merge (codes "S") (record { arch = codes "amd64"; packages = codes "P" } ∷ [])) }
@@ -165,8 +165,8 @@ pub fn numbers_are_read()
     ensures attempted { invocation_by (codes "attempted no 1") ≡ None }
 {}
 
-/// Build priorities are read with a plus or a minus sign and leading zeros, from -2^63 to 2^63 - 1, and
-/// no others are.
+/// Build priorities are read with a plus or a minus sign and leading zeros, from -2^63 to 2^63 - 1,
+/// and no others are.
 pub fn integers_are_read()
     // integers
     ensures plus { invocation_by (codes "build-priority a s v +7")
@@ -193,8 +193,8 @@ pub fn integers_are_read()
     ensures many { invocation_by (codes "build-priority a s v 5 6") ≡ None }
 {}
 
-/// A negative build priority that is the last word needs no `--` before it. Any other word of two or more bytes that
-/// begins with a hyphen is an option, as of other subcommands.
+/// A negative build priority that is the last word needs no `--` before it. Any other word of two
+/// or more bytes that begins with a hyphen is an option, as of other subcommands.
 pub fn negative_build_priorities_are_read()
     // with and without `--`
     ensures bare { invocation_by (codes "build-priority a s v -50")
@@ -220,8 +220,8 @@ pub fn negative_build_priorities_are_read()
     ensures note { invocation_by (codes "fail a s v -1") ≡ None }
 {}
 
-/// After `--` each word is an argument, whatever its bytes are, and so is what comes after `--after=`:
-/// these are all texts. A last argument of several words has two of them here.
+/// After `--` each word is an argument, whatever its bytes are, and so is what comes after
+/// `--after=`: these are all texts. A last argument of several words has two of them here.
 pub fn any_words_are_arguments()
     // of operators
     ensures add_arch { (name os cpu : List ℕ) → invocation_in (codes "add-arch" ∷ codes "--" ∷ name ∷ os
@@ -293,8 +293,8 @@ pub fn any_words_are_arguments()
         ≡ Some (Report arch file) }
 {}
 
-/// These words ask for nothing: no words, an unknown subcommand, help in its three forms, words without
-/// an argument, a word too many, and an option.
+/// These words ask for nothing: no words, an unknown subcommand, help in its three forms, words
+/// without an argument, a word too many, and an option.
 pub fn other_words_are_none()
     // the subcommand
     ensures none { invocation_in [] ≡ None }
@@ -351,8 +351,8 @@ pub fn starts_are_read()
     ensures behind { IsNoStart (codes "run" ∷ codes "--store=a" ∷ []) }
 {}
 
-/// `run` and `serve` take the file of a journal, once, after them and in any place among their options; no other subcommand
-/// takes one.
+/// `run` and `serve` take the file of a journal, once, after them and in any place among their
+/// options; no other subcommand takes one.
 pub fn journals_are_read()
     ensures run { journal_in (codes "run" ∷ codes "--journal" ∷ codes "wb.journal" ∷ []) ≡ Some (codes "wb.journal") }
     ensures run_read { start_faults (codes "run" ∷ codes "--journal=a b" ∷ []) ≡ [] }
@@ -366,8 +366,8 @@ pub fn journals_are_read()
     ensures other { IsNoStart (codes "queue" ∷ codes "amd64" ∷ codes "--journal=a" ∷ []) }
 {}
 
-/// A single command is asked for by its words, and a query as such: those are the words after the file that keeps the
-/// records. What `clap` tests of them is tested first.
+/// A single command is asked for by its words, and a query as such: those are the words after the
+/// file that keeps the records. What `clap` tests of them is tested first.
 pub fn single_commands_are_read()
     ensures asked { (given : Bor (List (Bor Text)))
         → map (λ word. word.now) given.now ≡ codes "summary" ∷ codes "amd64" ∷ []
@@ -401,23 +401,24 @@ pub fn single_commands_are_read()
     ensures escape { IsNoStart (codes "--" ∷ codes "queue" ∷ codes "amd64" ∷ []) }
 {}
 
-/// Words whose first is the name of a query ask for no command, whatever follows: they ask for a query or for nothing.
+/// Words whose first is the name of a query ask for no command, whatever follows: they ask for a
+/// query or for nothing.
 pub fn queries_ask_for_no_command()
     ensures { (words : List Text) → begin_with_query words ≡ true
         → IfSome (invocation_in words) IsQuery }
 {}
 
-/// What the program serves: on which port, and how many connections; without their number, all. Both numbers are read as
-/// `numbers_are_read` has it, and stand within their limits.
+/// What the program serves: on which port, and how many connections; without their number, all.
+/// Both numbers are read as `numbers_are_read` has it, and stand within their limits.
 pub fn services_are_read()
     ensures serve { Starts (codes "serve" ∷ codes "--port" ∷ codes "8080" ∷ codes "--requests" ∷ codes "10" ∷ [])
-        (Serve None 8080 (Some 10) None None) }
+        (Serve None 8080 (Some 10) None None None) }
     ensures order { Starts (codes "serve" ∷ codes "--requests=+1" ∷ codes "--port=007" ∷ [])
-        (Serve None 7 (Some 1) None None) }
+        (Serve None 7 (Some 1) None None None) }
     ensures greatest { Starts (codes "serve" ∷ codes "--port=65535" ∷ codes "--requests=1000000" ∷ [])
-        (Serve None 65535 (Some 1000000) None None) }
+        (Serve None 65535 (Some 1000000) None None None) }
     ensures unlimited { Starts (codes "serve" ∷ codes "--port=1" ∷ [])
-        (Serve None 1 None None None) }
+        (Serve None 1 None None None None) }
     ensures file { store_in (codes "--store" ∷ codes "wb.db" ∷ codes "serve" ∷ codes "--port=1" ∷ codes "--requests=1"
         ∷ []) ≡ Some (codes "wb.db") }
     ensures help { Starts (codes "serve" ∷ codes "--help" ∷ []) Help }
@@ -457,6 +458,26 @@ pub fn folders_are_read()
     ensures first { IsNoStart (codes "--lists=a" ∷ codes "serve" ∷ codes "--port=1" ∷ []) }
     ensures run { IsNoStart (codes "run" ∷ codes "--lists=a" ∷ []) }
     ensures other { IsNoStart (codes "queue" ∷ codes "amd64" ∷ codes "--lists=a" ∷ []) }
+{}
+
+/// `serve` takes the file of keys, once, after it and in any place among its options; no other
+/// subcommand takes one.
+pub fn key_files_are_read()
+    ensures serve { keys_in (codes "serve" ∷ codes "--port=1" ∷ codes "--keys" ∷ codes "a" ∷ [])
+        ≡ Some (codes "a") }
+    ensures before { keys_in (codes "serve" ∷ codes "--keys=a b" ∷ codes "--port=1" ∷ [])
+        ≡ Some (codes "a b") }
+    ensures read { start_faults (codes "serve" ∷ codes "--keys=a b" ∷ codes "--port=1" ∷ []) ≡ [] }
+    ensures both { lists_in (codes "serve" ∷ codes "--keys=a" ∷ codes "--lists=b"
+        ∷ codes "--port=1" ∷ []) ≡ Some (codes "b") }
+    ensures none { keys_in (codes "serve" ∷ codes "--port=1" ∷ []) ≡ None }
+    // without a file, twice, before the subcommand, and after another one
+    ensures unnamed { IsNoStart (codes "serve" ∷ codes "--port=1" ∷ codes "--keys" ∷ []) }
+    ensures twice { IsNoStart (codes "serve" ∷ codes "--port=1" ∷ codes "--keys=a"
+        ∷ codes "--keys=b" ∷ []) }
+    ensures first { IsNoStart (codes "--keys=a" ∷ codes "serve" ∷ codes "--port=1" ∷ []) }
+    ensures run { IsNoStart (codes "run" ∷ codes "--keys=a" ∷ []) }
+    ensures other { IsNoStart (codes "queue" ∷ codes "amd64" ∷ codes "--keys=a" ∷ []) }
 {}
 
 /// A command is asked for by its own name, which its answer then reports.

@@ -29,9 +29,9 @@ pub static USAGES: [(&str, &[(&str, ArgumentKind)]); 2] = [
     ),
 ];
 
-/// What the subcommand `name` asks for with these arguments. The errors are `NoCommand` if `name` is
-/// no subcommand that reads files, an argument was not given, or a word names no part; and `Memory`
-/// if there is no memory for the names.
+/// What the subcommand `name` asks for with these arguments. The errors are `NoCommand` if `name`
+/// is no subcommand that reads files, an argument was not given, or a word names no part; and
+/// `Memory` if there is no memory for the names.
 #[tactic(auto, unfolding(crate::specs::Words::list_invocation))]
 pub(crate) fn list_invocation(
     alloc: Global,
@@ -83,8 +83,8 @@ fn parts(
     }
 }
 
-/// The parts that the words name, in their order. The errors are `NoCommand` if one of them names no
-/// part, and `Memory` if there is no memory for the names.
+/// The parts that the words name, in their order. The errors are `NoCommand` if one of them names
+/// no part, and `Memory` if there is no memory for the names.
 fn parts_in(alloc: Global, words: &[&str]) -> Result<Items<PartNames>, WordsFault>
     ensures value { Reads (parts_in (map (λ word. word.now) words.now)) result }
 {

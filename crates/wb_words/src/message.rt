@@ -33,8 +33,8 @@ fn first_without_file<'a>(words: &[&'a str]) -> Option<&'a str> {
     None
 }
 
-/// The argument of the subcommand `name` that has a form of its own: each has at most one, but for the parts of a merge,
-/// of which it is the first that names none. `None` if it was not given.
+/// The argument of the subcommand `name` that has a form of its own: each has at most one, but for
+/// the parts of a merge, of which it is the first that names none. `None` if it was not given.
 fn formed_of<'a>(name: &str, arguments: &ArgMatches<'a>) -> Option<Formed<'a>> {
     let (name, word, form) = match name {
         "merge" => (
@@ -50,7 +50,8 @@ fn formed_of<'a>(name: &str, arguments: &ArgMatches<'a>) -> Option<Formed<'a>> {
     Some(Formed { name, word, form })
 }
 
-/// Of words that `clap` read and that are no command: which argument is malformed, and what it has to be.
+/// Of words that `clap` read and that are no command: which argument is malformed, and what it has
+/// to be.
 pub(crate) fn malformed_text(
     alloc: Global,
     matches: &ArgMatches<'_>,

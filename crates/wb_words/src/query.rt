@@ -42,8 +42,9 @@ pub(crate) fn is_query(name: &str) -> bool
     arguments_among(USAGES.as_slice(), name).is_some()
 }
 
-/// The query `name` with these arguments. The errors are `NoCommand` if `name` is no subcommand that
-/// asks the office, or an argument was not given; and `Memory` if there is no memory for its texts.
+/// The query `name` with these arguments. The errors are `NoCommand` if `name` is no subcommand
+/// that asks the office, or an argument was not given; and `Memory` if there is no memory for its
+/// texts.
 #[tactic(auto, unfolding(crate::specs::Words::query_named))]
 pub(crate) fn query_named(
     alloc: Global,

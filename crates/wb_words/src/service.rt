@@ -70,8 +70,8 @@ fn limited_number(arguments: &ArgMatches<'_>, id: &str, limit: u64) -> Option<u6
     limited(number(arguments, id).ok()?, limit)
 }
 
-/// The number from 1 to the limit that was given for the argument `id`; `None` in it if no word was given, and `None` if the
-/// word is no such number.
+/// The number from 1 to the limit that was given for the argument `id`; `None` in it if no word was
+/// given, and `None` if the word is no such number.
 #[tactic(auto, using(crate::proofs::RowLemmas::row_laws), unfolding(crate::specs::Arguments::word_of, crate::specs::Service::optional_limited_number_of))]
 fn optional_limited_number(arguments: &ArgMatches<'_>, id: &str, limit: u64) -> Option<Option<u64>>
     ensures value { result
@@ -84,8 +84,8 @@ fn optional_limited_number(arguments: &ArgMatches<'_>, id: &str, limit: u64) -> 
     }
 }
 
-/// The port, and how many connections are served, or that no number of them was given; `None` if the port is missing, or a
-/// number is out of range.
+/// The port, and how many connections are served, or that no number of them was given; `None` if
+/// the port is missing, or a number is out of range.
 #[tactic(auto, unfolding(crate::specs::Service::service_of))]
 pub(crate) fn service_of(arguments: &ArgMatches<'_>) -> Option<(u16, Option<u32>)>
     ensures value { result ≡ service_of (rows_of (found_of arguments.now)) }

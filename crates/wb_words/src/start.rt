@@ -7,7 +7,7 @@ ghost use Rattle.wb_words.specs.Arguments.{word_of};
 ghost use Rattle.wb_words.specs.Service.{serve_app};
 ghost use Rattle.wb_words.specs.Start.{Asks, AsksNone, IsNoStart, Names, NamesNone, Starts};
 ghost use Rattle.wb_words.specs.Start.{begin_with_query, begins_with_help, single_words, start_app};
-ghost use Rattle.wb_words.specs.Start.{start_words, store_words, with_journal, with_lists};
+ghost use Rattle.wb_words.specs.Start.{start_words, store_words, with_journal, with_service_paths};
 ghost use Rattle.wb_words.specs.declared.start.Start.TheVariants.{Ask, CarryOut};
 
 use crate::escape::{escaped, has_negative_value};
@@ -35,12 +35,16 @@ pub enum Start<'a> {
         store: Option<&'a str>,
         /// The port of TCP on 127.0.0.1, at least 1.
         port: u16,
-        /// How many connections are served, from 1 to 1000000; without it, all until the program is ended.
+        /// How many connections are served, from 1 to 1000000; without it, all until the program is
+        /// ended.
         requests: Option<u32>,
         /// The file to which a line for each accepted command is appended, if one is kept.
         journal: Option<&'a str>,
         /// The folder of the lists that a request may merge; without it none can merge lists.
         lists: Option<&'a str>,
+        /// The file of keys, which says who may ask for what; without it everybody may ask for
+        /// everything.
+        keys: Option<&'a str>,
     },
     /// To have the office answer a query, which leaves it as it is.
     Ask {
@@ -70,7 +74,7 @@ Usage:
   wb [--store FILE] COMMAND ARGUMENTS..
                            Answers one command
   wb [--store FILE] serve --port P [--requests N] [--journal FILE]
-                          [--lists FOLDER]
+                          [--lists FOLDER] [--keys FILE]
                            Answers HTTP requests of builders on this machine
   wb help                  Prints this text
   wb --version             Prints the version
@@ -87,7 +91,9 @@ it is, also with spaces. A command that changes nothing leaves FILE as it is.
 another, until it is ended. With --requests it serves N of them, and ends. P is
 from 1 to 65535, and N from 1 to 1000000. Each connection carries one request.
 --store keeps the records as with `wb run`. With --lists a request can merge
-lists of the archive that lie in FOLDER. Without it no request can.
+lists of the archive that lie in FOLDER. Without it no request can. With --keys
+a request may ask for what the line of its key in FILE allows. Without it every
+request may ask for everything.
 
 With --journal a line of JSON is appended to FILE for each accepted command once
 it is stored: when it was accepted, what it was, and its answer. A journal that
@@ -209,10 +215,14 @@ const OPTIONS: [(&str, ArgumentKind); 1] = [("store", ArgumentKind::NamedWord)];
 /// The option of the subcommands that go on with an office.
 const JOURNAL: [(&str, ArgumentKind); 1] = [("journal", ArgumentKind::NamedWord)];
 
-/// The option of the subcommand that serves, beside its numbers.
-const LISTS: [(&str, ArgumentKind); 1] = [("lists", ArgumentKind::NamedWord)];
+/// The options of the subcommand that serves which name a folder and a file.
+const SERVICE_PATHS: [(&str, ArgumentKind); 2] = [
+    ("lists", ArgumentKind::NamedWord),
+    ("keys", ArgumentKind::NamedWord),
+];
 
-/// The program's command line: the option `--store`, the subcommands `run` and `serve` and those of a line, and help.
+/// The program's command line: the option `--store`, the subcommands `run` and `serve` and those of
+/// a line, and help.
 #[tactic(auto, unfolding(crate::specs::Start::start_app))]
 fn start_app<'a>(alloc: Global) -> Result<Command<'a>, AllocError>
     ensures value { IfOk result (λ command. app_of command ≡ start_app) }
@@ -242,11 +252,11 @@ fn with_run<'a>(alloc: Global, command: Command<'a>) -> Result<Command<'a>, Allo
 fn with_service<'a>(alloc: Global, command: Command<'a>) -> Result<Command<'a>, AllocError>
     requires { (out-Command command).has_globals ≡ false }
     ensures value { IfOk result (λ made. app_of made
-        ≡ with_subcommand (app_of command.entry) (with_lists (with_journal serve_app)).top) }
+        ≡ with_subcommand (app_of command.entry) (with_service_paths (with_journal serve_app)).top) }
     ensures local { IfOk result (λ made. (out-Command made).has_globals ≡ false) }
 {
     let kept = with_journal(alloc, serve_command(alloc)?)?;
-    let serve = with_lists(alloc, kept)?;
+    let serve = with_service_paths(alloc, kept)?;
     command.subcommand(serve)
 }
 
@@ -260,14 +270,14 @@ fn with_journal<'a>(alloc: Global, subcommand: Command<'a>) -> Result<Command<'a
     with_arguments(alloc, subcommand, JOURNAL.as_slice())
 }
 
-/// The subcommand with the option `--lists`.
-#[tactic(auto, unfolding(crate::specs::Start::with_lists))]
-fn with_lists<'a>(alloc: Global, subcommand: Command<'a>) -> Result<Command<'a>, AllocError>
+/// The subcommand with the options `--lists` and `--keys`.
+#[tactic(auto, unfolding(crate::specs::Start::with_service_paths))]
+fn with_service_paths<'a>(alloc: Global, subcommand: Command<'a>) -> Result<Command<'a>, AllocError>
     requires { (out-Command subcommand).has_globals ≡ false }
-    ensures value { IfOk result (λ made. app_of made ≡ with_lists (app_of subcommand.entry)) }
+    ensures value { IfOk result (λ made. app_of made ≡ with_service_paths (app_of subcommand.entry)) }
     ensures local { IfOk result (λ made. (out-Command made).has_globals ≡ false) }
 {
-    with_arguments(alloc, subcommand, LISTS.as_slice())
+    with_arguments(alloc, subcommand, SERVICE_PATHS.as_slice())
 }
 
 /// The file or the folder that the subcommand's arguments name under `id`, if they name one.
@@ -298,8 +308,8 @@ fn single_words<'a>(words: &'a [&'a str]) -> &'a [&'a str]
     &words[at..]
 }
 
-/// The words as they are read. Those of a negative build priority are kept until the program ends, since what they ask for
-/// is read of them. The only error is that there is no memory for them.
+/// The words as they are read. Those of a negative build priority are kept until the program ends,
+/// since what they ask for is read of them. The only error is that there is no memory for them.
 fn start_words<'a>(alloc: Global, words: &'a [&'a str]) -> Result<&'a [&'a str], AllocError>
     ensures value { IfOk result (λ read. map (λ word. word.now) read.now
         ≡ start_words (map (λ word. word.now) words.entry.now)) }
@@ -321,8 +331,8 @@ fn begin_with_query(words: &[&str]) -> bool
     }
 }
 
-/// What the subcommand `name` of these words, with these arguments, asks for; none if it serves and one of its numbers is
-/// missing or out of range.
+/// What the subcommand `name` of these words, with these arguments, asks for; none if it serves and
+/// one of its numbers is missing or out of range.
 fn start_named<'a>(
     words: &'a [&'a str],
     store: Option<&'a str>,
@@ -342,12 +352,14 @@ fn start_named<'a>(
             let (port, requests) = service_of(arguments)?;
             let journal = path_of(arguments, "journal");
             let lists = path_of(arguments, "lists");
+            let keys = path_of(arguments, "keys");
             Some(Start::Serve {
                 store,
                 port,
                 requests,
                 journal,
                 lists,
+                keys,
             })
         }
         _ => Some(single_start(store, single_words(words))),
@@ -385,8 +397,8 @@ fn asks_nothing(alloc: Global) -> Result<Error, AllocError> {
     )
 }
 
-/// What the words that were read ask for. The error is that their subcommand asks for nothing, or that there is
-/// no memory to say so.
+/// What the words that were read ask for. The error is that their subcommand asks for nothing, or
+/// that there is no memory to say so.
 fn started<'a>(
     alloc: Global,
     words: &'a [&'a str],
@@ -406,15 +418,17 @@ fn started<'a>(
 /// Reads the words after the program's name.
 ///
 /// `help` as the first word asks for help, whatever follows; `--help` and `-h` do if no word before
-/// them is at fault or is `--`. `--store FILE` or `--store=FILE` before the subcommand names the file that keeps
-/// the records. `serve` wants `--port` with a number from 1 to 65535, and takes `--requests` with one from 1 to 1000000,
-/// each in decimal digits after at most one plus sign. `--journal FILE`, after `run` or `serve`, names the file to which a
-/// line for each accepted command is appended. `--lists FOLDER`, after `serve`, names the folder
-/// of the lists that a request may merge. Each subcommand of a line is one here too, with its
-/// arguments: what `clap` does not test of them, numbers and the parts of a merge, is read when the
-/// command is carried out. A negative build priority may stand without `--`, as the last word. The
-/// error is that of `clap`, with a text for the terminal: the words ask for nothing, or there is no
-/// memory to read them, which may come at any words. The grammar is this project's own.
+/// them is at fault or is `--`. `--store FILE` or `--store=FILE` before the subcommand names the
+/// file that keeps the records. `serve` wants `--port` with a number from 1 to 65535, and takes
+/// `--requests` with one from 1 to 1000000, each in decimal digits after at most one plus sign.
+/// `--journal FILE`, after `run` or `serve`, names the file to which a line for each accepted
+/// command is appended. `--lists FOLDER`, after `serve`, names the folder of the lists that a
+/// request may merge, and `--keys FILE` the file of keys, which says who may ask for what. Each
+/// subcommand of a line is one here too, with its arguments: what `clap` does not test of them,
+/// numbers and the parts of a merge, is read when the command is carried out. A negative build
+/// priority may stand without `--`, as the last word. The error is that of `clap`, with a text for
+/// the terminal: the words ask for nothing, or there is no memory to read them, which may come at
+/// any words. The grammar is this project's own.
 pub fn start_of<'a>(alloc: Global, words: &'a [&'a str]) -> Result<Start<'a>, Error>
     ensures value { IfOk result (Starts (map (λ word. word.now) words.entry.now)) }
     ensures refused { IfErr result (λ error. kind_of error ≢ OutOfMemory

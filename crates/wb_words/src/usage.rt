@@ -5,8 +5,8 @@
 pub enum ArgumentKind {
     /// One word, which is required.
     Word,
-    /// One word after the option of the argument's name: `--name WORD` or `--name=WORD`, at most once.
-    /// It may be left out.
+    /// One word after the option of the argument's name: `--name WORD` or `--name=WORD`, at most
+    /// once. It may be left out.
     NamedWord,
     /// One word or more, as the last argument.
     SomeWords,

@@ -40,9 +40,9 @@ pub enum Invocation {
     },
 }
 
-/// The command `name` with these arguments. The errors are `NoCommand` if `name` is no subcommand of
-/// operators or builders, or an argument was not given or is no number; and `Memory` if there is no
-/// memory for its texts.
+/// The command `name` with these arguments. The errors are `NoCommand` if `name` is no subcommand
+/// of operators or builders, or an argument was not given or is no number; and `Memory` if there is
+/// no memory for its texts.
 #[tactic(auto, unfolding(crate::specs::Words::command_named))]
 fn command_named(
     alloc: Global,
@@ -58,8 +58,8 @@ fn command_named(
 }
 
 /// What the subcommand `name`, which is no command, asks for with these arguments. The errors are
-/// `NoCommand` if it asks for nothing, or an argument was not given or is malformed; and `Memory` if
-/// there is no memory for its texts.
+/// `NoCommand` if it asks for nothing, or an argument was not given or is malformed; and `Memory`
+/// if there is no memory for its texts.
 #[tactic(auto, unfolding(crate::specs::Words::other_invocation))]
 fn other_invocation(
     alloc: Global,
@@ -75,9 +75,9 @@ fn other_invocation(
     }
 }
 
-/// What the subcommand `name` asks for with these arguments. The errors are `NoCommand` if `name` is
-/// no subcommand, or an argument was not given or is malformed; and `Memory` if there is no memory
-/// for its texts.
+/// What the subcommand `name` asks for with these arguments. The errors are `NoCommand` if `name`
+/// is no subcommand, or an argument was not given or is malformed; and `Memory` if there is no
+/// memory for its texts.
 #[tactic(auto, unfolding(crate::specs::Words::invocation_named))]
 fn invocation_named(
     alloc: Global,
@@ -97,8 +97,9 @@ fn invocation_named(
 // first word names, which costs a quarter of that; lemmas prove that `clap` reads the same of both.
 // The whole tree is built for the message alone (`fault_read`). It is not made once for a run,
 // since the words that `clap` reads must live as long as the command that reads them.
-/// What the words of one line ask for, of which the first is the subcommand, as `clap` reads them. The errors are
-/// `NoCommand` if the words are no command, and `Memory`, which may come at any words.
+/// What the words of one line ask for, of which the first is the subcommand, as `clap` reads them.
+/// The errors are `NoCommand` if the words are no command, and `Memory`, which may come at any
+/// words.
 fn invocation_read<'a>(alloc: Global, words: &'a [&'a str]) -> Result<Invocation, WordsFault>
     ensures value { IfOk result (λ invocation.
         invocation_read (map (λ word. word.now) words.entry.now) ≡ Some invocation) }
@@ -113,7 +114,8 @@ fn invocation_read<'a>(alloc: Global, words: &'a [&'a str]) -> Result<Invocation
     invocation_named(alloc, name, &arguments)
 }
 
-/// What the words of one line ask for, as if `--` stood before the last of them. The errors are those of `invocation_read`.
+/// What the words of one line ask for, as if `--` stood before the last of them. The errors are
+/// those of `invocation_read`.
 fn invocation_escaped(alloc: Global, words: &[&str]) -> Result<Invocation, WordsFault>
     ensures value { IfOk result (λ invocation.
         invocation_read (escaped (map (λ word. word.now) words.now)) ≡ Some invocation) }
@@ -126,13 +128,13 @@ fn invocation_escaped(alloc: Global, words: &[&str]) -> Result<Invocation, Words
 
 /// Reads the words of one line, of which the first is the subcommand.
 ///
-/// Each word is one argument, whatever bytes it has. One space joins the words of a last argument, but
-/// each part of a merge is an argument of its own. A word of two or more bytes that begins with a
-/// hyphen is an option, unless the word `--` came before it. The only option is `--after` of `next`.
-/// Numbers are whole, from 0 to 2^64 - 1, in decimal digits, after at most one plus sign. A build
-/// priority is from -2^63 to 2^63 - 1, after at most one plus or minus sign; one with a minus sign may
-/// stand without `--`, as the last word. The errors are `NoCommand` if the words are no command, and
-/// `Memory`, which may come at any words. The grammar is this project's own.
+/// Each word is one argument, whatever bytes it has. One space joins the words of a last argument,
+/// but each part of a merge is an argument of its own. A word of two or more bytes that begins with
+/// a hyphen is an option, unless the word `--` came before it. The only option is `--after` of
+/// `next`. Numbers are whole, from 0 to 2^64 - 1, in decimal digits, after at most one plus sign. A
+/// build priority is from -2^63 to 2^63 - 1, after at most one plus or minus sign; one with a minus
+/// sign may stand without `--`, as the last word. The errors are `NoCommand` if the words are no
+/// command, and `Memory`, which may come at any words. The grammar is this project's own.
 #[tactic(auto, unfolding(crate::specs::Words::invocation_in))]
 pub fn invocation_of<'a>(alloc: Global, words: &'a [&'a str]) -> Result<Invocation, WordsFault>
     ensures value { IfOk result (λ invocation.
@@ -147,8 +149,8 @@ pub fn invocation_of<'a>(alloc: Global, words: &'a [&'a str]) -> Result<Invocati
     }
 }
 
-/// Why words are no command, as `clap` reads them: what it says of them, or which argument is malformed, and what it has to
-/// be. The error is that there is no memory for the text.
+/// Why words are no command, as `clap` reads them: what it says of them, or which argument is
+/// malformed, and what it has to be. The error is that there is no memory for the text.
 fn fault_read<'a>(alloc: Global, words: &'a [&'a str]) -> Result<String, AllocError> {
     match wb_app(alloc)?.try_get_matches_from(words) {
         Ok(matches) => malformed_text(alloc, &matches),
@@ -156,8 +158,8 @@ fn fault_read<'a>(alloc: Global, words: &'a [&'a str]) -> Result<String, AllocEr
     }
 }
 
-/// Why words are no command, for a person: what `clap` says of them, or which argument is malformed, and what it
-/// has to be. The error is that there is no memory for the text.
+/// Why words are no command, for a person: what `clap` says of them, or which argument is
+/// malformed, and what it has to be. The error is that there is no memory for the text.
 pub fn fault_of<'a>(alloc: Global, words: &'a [&'a str]) -> Result<String, AllocError> {
     if has_negative_value(words) {
         let read = escaped(alloc, words)?;

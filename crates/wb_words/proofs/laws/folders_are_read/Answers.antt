@@ -3,11 +3,11 @@ use Rattle.clap.specs.declared.error.kind.ErrorKind.TheVariants as kind
 use Rattle.clap.proofs.OnLiterals.{clap_on_literals}
 use Rattle.wb_words.specs.Arguments.{word_of}
 use Rattle.wb_words.specs.Escapes.{has_negative_value}
-use Rattle.wb_words.specs.Start.{journal_in, lists_in, with_journal, with_lists, start_app, start_faults, subcommand_in}
+use Rattle.wb_words.specs.Start.{journal_in, lists_in, with_journal, with_service_paths, start_app, start_faults, subcommand_in}
 use Rattle.wb_words.proofs.laws.folders_are_read.Goals as goal
 
 pub returns : goal.returns
-unfolding has_negative_value journal_in lists_in start_faults subcommand_in with_journal with_lists start_app
+unfolding has_negative_value journal_in lists_in start_faults subcommand_in with_journal with_service_paths start_app
     word_of clap_on_literals
 returns c = record {
   serve = refl;

@@ -1,0 +1,23 @@
+use Rattle.std.proofs.Common.{inl, refl}
+use Rattle.clap.specs.declared.error.kind.ErrorKind.TheVariants as kind
+use Rattle.clap.proofs.OnLiterals.{clap_on_literals}
+use Rattle.wb_words.specs.Arguments.{word_of}
+use Rattle.wb_words.specs.Escapes.{has_negative_value}
+use Rattle.wb_words.specs.Start.{keys_in, lists_in, with_journal, with_service_paths, start_app, start_faults, subcommand_in}
+use Rattle.wb_words.proofs.laws.key_files_are_read.Goals as goal
+
+pub returns : goal.returns
+unfolding has_negative_value keys_in lists_in start_faults subcommand_in with_journal with_service_paths start_app
+    word_of clap_on_literals
+returns c = record {
+  serve = refl;
+  before = refl;
+  read = refl;
+  both = refl;
+  none = refl;
+  unnamed = (refl, inl (kind.InvalidValue, inl refl, λ e. cc));
+  twice = (refl, inl (kind.ArgumentConflict, inl refl, λ e. cc));
+  first = (refl, inl (kind.UnknownArgument, inl refl, λ e. cc));
+  run = (refl, inl (kind.UnknownArgument, inl refl, λ e. cc));
+  other = (refl, inl (kind.UnknownArgument, inl refl, λ e. cc));
+}
