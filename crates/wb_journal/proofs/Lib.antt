@@ -1,1 +1,2 @@
+pub mod AskerLemmas
 pub mod EntryLemmas

@@ -1,5 +1,6 @@
--- What is appended to a journal: commands that were accepted, each with its reply.
-use Rattle.std.specs.Prelude.{Bool, true, false, List, [], ◌∷◌, Result, Ok, Err, if◌then◌else◌}
+-- What is appended to a journal: commands that were accepted, each with who gave it and its reply.
+use Rattle.std.specs.Prelude.{ℕ, nat_le, Bool, true, false, List, [], ◌∷◌, length, Option, None, Some}
+use Rattle.std.specs.Prelude.{Result, Ok, Err, if◌then◌else◌}
 use Rattle.wb_states.specs.declared.command.Command.{Command}
 use Rattle.wb_states.specs.declared.command.Command.TheVariants.{Merge}
 use Rattle.wb_states.specs.declared.refusal.Refusal.{Refusal}
@@ -18,12 +19,29 @@ is_new (Merged accepted parts) = true
 abbrev pub merge_of_readers : Command
 merge_of_readers = Merge (record { sources = []; parts = [] })
 
--- the entries of a command with its answer: one if it was accepted, none if it was refused, and none for a retry
-abbrev pub entries_of_command : Command → Result Reply Refusal → List (Command × Reply)
-entries_of_command command (Ok reply) = if is_new reply then (command, reply) ∷ [] else []
-entries_of_command command (Err refusal) = []
+-- who has this name: nobody who is known if it is longer than 64 bytes, which no name of a key is (this project's own)
+abbrev pub asker_named : List ℕ → Option (List ℕ)
+asker_named name = if nat_le (length name) 64 then Some name else None
 
--- the entries of a merge of lists that readers gave, with its answer: one if it was accepted, and none if it was refused
-abbrev pub entries_of_merge : Result Reply Refusal → List (Command × Reply)
-entries_of_merge (Ok reply) = (merge_of_readers, reply) ∷ []
-entries_of_merge (Err refusal) = []
+-- who gives commands, by the name that is said, or none
+abbrev pub asker_of : Option (List ℕ) → Option (List ℕ)
+asker_of None = None
+asker_of (Some name) = asker_named name
+
+-- an entry: a command that was accepted, the name of who gave it, or none if that is not known, and its reply
+pub record Entry : Type 0 where
+  pub by : Option (List ℕ)
+  pub command : Command
+  pub reply : Reply
+
+-- the entries of a command with its answer: one if it was accepted, none if it was refused, and none for a retry
+abbrev pub entries_of_command : Option (List ℕ) → Command → Result Reply Refusal → List Entry
+entries_of_command by command (Ok reply) =
+    if is_new reply then record { by = by; command = command; reply = reply } ∷ [] else []
+entries_of_command by command (Err refusal) = []
+
+-- the entries of a merge of lists that readers gave, with its answer: one if it was accepted, and none if it was
+-- refused
+abbrev pub entries_of_merge : Option (List ℕ) → Result Reply Refusal → List Entry
+entries_of_merge by (Ok reply) = record { by = by; command = merge_of_readers; reply = reply } ∷ []
+entries_of_merge by (Err refusal) = []

@@ -1,4 +1,5 @@
--- The objects of commands in a journal (RFC 8259), before they are printed. An argument has the name that it has in the body of a request.
+-- The objects of commands in a journal (RFC 8259), before they are printed. An argument has the name that it has in the
+-- body of a request.
 use Rattle.std.specs.Prelude.{ℕ, List, Option, None, Some, map, codes, length}
 use Rattle.serde_json.specs.Data.{Data, Items, null, number, unsigned, string, array, object, member, no_members}
 use Rattle.serde_json.specs.Find.{of_integer}
@@ -21,7 +22,8 @@ value_of_held name given = object
     (member (codes "command") (string name)
     (member (codes "take") (number (unsigned given.take_number)) no_members))
 
--- the object of a command of this name that names a source package on an architecture and its version, with nothing more
+-- the object of a command of this name that names a source package on an architecture and its version, with nothing
+-- more
 abbrev pub named_value : List ℕ → List ℕ → List ℕ → List ℕ → Data
 named_value name arch source version = object
     (member (codes "arch") (string arch)
@@ -60,7 +62,8 @@ merge_value parts = object
 abbrev pub value_of_merged : List PartReply → Data
 value_of_merged replies = merge_value (items_of (map (λ reply. part_value reply.arch) replies))
 
--- the object of a command: its name and its arguments; of a merge the architectures, and of a report how many bytes it has
+-- the object of a command: its name and its arguments; of a merge the architectures, and of a report how many bytes it
+-- has
 abbrev pub value_of_command : Command → Data
 value_of_command (AddArch given) = object
     (member (codes "command") (string (codes "add-arch"))

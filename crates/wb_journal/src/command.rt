@@ -10,8 +10,9 @@ use serde_json::{Value, json};
 use std::alloc::{AllocError, Global};
 use wb_states::{Command, Part, PartReply, command};
 
-/// The object of a command: its name under `command`, and its arguments under the names that they have in the body of a
-/// request. A merge has its architectures alone, and a report the number of its bytes.
+/// The object of a command: its name under `command`, and its arguments under the names that they
+/// have in the body of a request. A merge has its architectures alone, and a report the number of
+/// its bytes.
 pub(crate) fn value_of_command(alloc: Global, command: &Command) -> Result<Value, AllocError>
     ensures value { IfOk result (λ value. view value ≡ value_of_command command.now) }
 {
@@ -140,7 +141,8 @@ fn value_of_attempted(alloc: Global, given: &command::Attempted) -> Result<Value
     })
 }
 
-/// The object of a command of this name that names a source package and its version, with nothing more.
+/// The object of a command of this name that names a source package and its version, with nothing
+/// more.
 fn named_value(
     alloc: Global,
     name: &str,
@@ -247,7 +249,8 @@ fn part_value(alloc: Global, arch: &Text) -> Result<Value, AllocError>
     json!(in alloc; {"arch": arch.as_str()})
 }
 
-/// The object of a merge that was accepted, by the replies to its parts: it has their architectures.
+/// The object of a merge that was accepted, by the replies to its parts: it has their
+/// architectures.
 pub(crate) fn value_of_merged(alloc: Global, replies: &[PartReply]) -> Result<Value, AllocError>
     ensures value { IfOk result (λ value. view value ≡ value_of_merged replies.now) }
 {

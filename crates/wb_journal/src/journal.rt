@@ -1,55 +1,71 @@
 //! The layer around an office that writes its journal.
-ghost use Rattle.std.specs.Prelude.{◌≡◌, ◌∷◌, ◌++◌, List, [], Err, IfErr, IfOk, Ok, Some, false};
+ghost use Rattle.std.specs.Prelude.{◌≡◌, ◌↔◌, ◌∷◌, ◌++◌, List, [], Err, IfErr, IfOk, None, Ok, Some, false, true};
+ghost use Rattle.std.specs.Option.{option_copied};
 ghost use Rattle.wb_archive.specs.Readers.{IsMergeOf, MayLeave, archs_refusal};
-ghost use Rattle.wb_journal.specs.Appended.{entries_of_command, entries_of_merge, is_new, merge_of_readers};
-ghost use Rattle.wb_states.specs.declared.command.Command.{Command as AnyCommand};
+ghost use Rattle.wb_journal.specs.Appended.{Entry, asker_of, entries_of_command, entries_of_merge, is_new};
+ghost use Rattle.wb_journal.specs.Appended.{merge_of_readers};
 ghost use Rattle.wb_states.specs.declared.refusal.Refusal.{Refusal as AnyRefusal};
 ghost use Rattle.wb_states.specs.declared.refusal.Refusal.TheVariants.{Closed, Memory, Store as OfStore};
-ghost use Rattle.wb_states.specs.declared.reply.Reply.{Reply as AnyReply};
 ghost use Rattle.wb_states.specs.declared.store_fault.StoreFault.{StoreFault};
+ghost use Rattle.wb_states.specs.Holds.{holder_of};
 ghost use Rattle.wb_states.specs.Machine.{Machine};
+ghost use Rattle.wb_states.specs.Queries.{answer_of, has_malformed_name};
 ghost use Rattle.wb_states.specs.Refusals.{IsOfMachine, is_of_store};
 ghost use Rattle.wb_step.specs.Checks.{MayWantMemory};
 ghost use Rattle.wb_step.specs.Offices.{StandsOn};
 ghost use Rattle.wb_step.specs.Step.{step};
 
+use crate::Asker;
+use deb_text::Text;
 use std::io::BufRead;
 use wb_archive::{ArchList, MergeFrom};
 use wb_states::{Answer, Command, Query, Refusal, Reply};
 use wb_step::CarryOut;
 
-/// Where entries go. What becomes of an entry that cannot be written is the journal's own affair: nothing of the office
-/// depends on it (this project's own).
+/// Where entries go. What becomes of an entry that cannot be written is the journal's own affair:
+/// nothing of the office depends on it (this project's own).
 pub trait Journal {
-    // The entries that were given, the oldest first: commands that an office accepted, each with its reply.
-    ghost entries: { Self → List (AnyCommand × AnyReply) };
+    // The entries that were given, the oldest first: commands that an office accepted, each with
+    // who gave it and its reply.
+    ghost entries: { Self → List Entry };
 
-    /// Appends the entry of a command that the office accepted, and committed, with its reply.
-    fn append(&mut self, command: &Command, reply: &Reply)
-        ensures appended { entries self.new ≡ entries self.old ++ (command.now, reply.now) ∷ [] };
+    /// Appends the entry of a command that the office accepted, and committed, with who gave it and
+    /// its reply.
+    fn append(&mut self, by: &Asker, command: &Command, reply: &Reply)
+        ensures appended { entries self.new ≡ entries self.old
+            ++ record { by = by.now; command = command.now; reply = reply.now } ∷ [] };
 
-    /// Appends the entry of a merge of lists that readers gave, which the office accepted, and committed, with its reply.
-    fn append_merge(&mut self, reply: &Reply)
-        ensures appended { entries self.new
-            ≡ entries self.old ++ (merge_of_readers, reply.now) ∷ [] };
+    /// Appends the entry of a merge of lists that readers gave, which the office accepted, and
+    /// committed, with who gave it and its reply.
+    fn append_merge(&mut self, by: &Asker, reply: &Reply)
+        ensures appended { entries self.new ≡ entries self.old
+            ++ record { by = by.now; command = merge_of_readers; reply = reply.now } ∷ [] };
 }
 
-/// An office that has each command that it accepts appended to a journal once it is committed. It promises what the office
-/// promises. A retry, which is answered with what the builder has already, is no new command and has no entry (this
-/// project's own).
+/// An office that has each command that it accepts appended to a journal once it is committed, with
+/// who gave it as it was told last. It promises what the office promises. A retry, which is
+/// answered with what the builder has already, is no new command and has no entry (this project's
+/// own).
 #[derive(Drop)]
 pub struct Journaled<'a, O: CarryOut, J: Journal + Drop> {
     office: &'a mut O,
     /// The journal.
     pub journal: J,
+    /// Who gives the commands that come next.
+    pub by: Asker,
 }
 
 impl<'a, O: CarryOut, J: Journal + Drop> Journaled<'a, O, J> {
-    /// The office with its journal. Takes no memory.
+    /// The office with its journal, and nobody who is known to give commands. Takes no memory.
     pub fn new(office: &'a mut O, journal: J) -> Self
         ensures value { result.journal ≡ journal }
+        ensures by { result.by ≡ None }
     {
-        Journaled { office, journal }
+        Journaled {
+            office,
+            journal,
+            by: Asker::nobody(),
+        }
     }
 }
 
@@ -79,7 +95,8 @@ impl<'a, O: CarryOut, J: Journal + Drop> CarryOut for Journaled<'a, O, J> {
         self.office.closed()
     }
 
-    // It promises what its office promises, of the same states, and has an entry more for a command that was accepted.
+    // It promises what its office promises, of the same states, and has an entry more for a command
+    // that was accepted.
     fn carry_out(&mut self, command: &Command) -> Result<Reply, Refusal>
         // whatever the store gives back
         ensures shut { O.CarryOut.is_closed self.old.office.now
@@ -88,7 +105,8 @@ impl<'a, O: CarryOut, J: Journal + Drop> CarryOut for Journaled<'a, O, J> {
         ensures stands { ¬ O.CarryOut.is_closed self.old.office.now
             → StandsOn (O.CarryOut.is_closed self.new.office.now) result }
         ensures entries { J.Journal.entries self.new.journal
-            ≡ J.Journal.entries self.old.journal ++ entries_of_command command.now result }
+            ≡ J.Journal.entries self.old.journal ++ entries_of_command self.old.by command.now result }
+        ensures by { self.new.by ≡ self.old.by }
         // at each state at which the office stands
         ensures clean { O.CarryOut.is_clean self.new.office.now → O.CarryOut.is_clean self.old.office.now }
         ensures reply { (machine : Machine) → O.CarryOut.is_clean self.new.office.now
@@ -120,21 +138,111 @@ impl<'a, O: CarryOut, J: Journal + Drop> CarryOut for Journaled<'a, O, J> {
         let answer = self.office.carry_out(command);
         if let Ok(reply) = &answer {
             if is_new(reply) {
-                self.journal.append(command, reply);
+                self.journal.append(&self.by, command, reply);
             }
         }
         answer
     }
 
-    fn ask(&mut self, query: &Query) -> Result<Answer, Refusal> {
+    // It promises what its office promises, of the same states, and the journal stays as it is.
+    fn ask(&mut self, query: &Query) -> Result<Answer, Refusal>
+        // whatever the store gives back
+        ensures shut { O.CarryOut.is_closed self.old.office.now
+            → (result ≡ Err Closed) × O.CarryOut.is_closed self.new.office.now }
+        ensures told { result ≡ Err Closed → O.CarryOut.is_closed self.old.office.now }
+        ensures stands { ¬ O.CarryOut.is_closed self.old.office.now
+            → StandsOn (O.CarryOut.is_closed self.new.office.now) result }
+        ensures kept { (J.Journal.entries self.new.journal ≡ J.Journal.entries self.old.journal)
+            × (self.new.by ≡ self.old.by) }
+        // at each state at which the office stands
+        ensures clean { O.CarryOut.is_clean self.new.office.now → O.CarryOut.is_clean self.old.office.now }
+        ensures answer { (machine : Machine) → O.CarryOut.is_clean self.new.office.now
+            → O.CarryOut.stands_at self.old.office.now machine
+            → IfOk result (λ answer. (answer_of machine query.now ≡ Ok answer)
+            × O.CarryOut.stands_at self.new.office.now machine) }
+        ensures refused { (machine : Machine) → O.CarryOut.is_clean self.new.office.now
+            → O.CarryOut.stands_at self.old.office.now machine
+            → IfErr result (λ refusal. IsOfMachine refusal → is_of_store refusal ≡ false
+            → (answer_of machine query.now ≡ Err refusal) × O.CarryOut.stands_at self.new.office.now machine) }
+        ensures memory { (machine : Machine) → O.CarryOut.is_clean self.new.office.now
+            → O.CarryOut.stands_at self.old.office.now machine
+            → result ≡ Err Memory
+            → (has_malformed_name query.now ≡ false) × O.CarryOut.stands_at self.new.office.now machine }
+        ensures cause { (machine : Machine) → O.CarryOut.is_clean self.new.office.now
+            → O.CarryOut.stands_at self.old.office.now machine → ¬ O.CarryOut.is_closed self.old.office.now
+            → result ≡ Err Memory → O.CarryOut.is_closed self.new.office.now
+            → O.CarryOut.cannot_go_on self.new.office.now }
+        ensures closed { (machine : Machine) → O.CarryOut.is_clean self.new.office.now
+            → O.CarryOut.stands_at self.old.office.now machine
+            → result ≡ Err Closed
+            → O.CarryOut.is_closed self.new.office.now × O.CarryOut.stands_at self.new.office.now machine }
+        ensures store { (machine : Machine) → O.CarryOut.is_clean self.new.office.now
+            → O.CarryOut.stands_at self.old.office.now machine
+            → (fault : StoreFault) → result ≡ Err (OfStore fault)
+            → O.CarryOut.leaves self.new.office.now machine machine fault }
+    {
         self.office.ask(query)
+    }
+
+    // It promises what its office promises, of the same states, and the journal stays as it is.
+    fn holder_of(&mut self, take_number: u64) -> Result<Option<Text>, Refusal>
+        // whatever the store gives back
+        ensures shut { O.CarryOut.is_closed self.old.office.now
+            → (result ≡ Err Closed) × O.CarryOut.is_closed self.new.office.now }
+        ensures told { result ≡ Err Closed → O.CarryOut.is_closed self.old.office.now }
+        ensures stands { ¬ O.CarryOut.is_closed self.old.office.now
+            → StandsOn (O.CarryOut.is_closed self.new.office.now) result }
+        ensures refused { IfErr result (λ refusal. IsOfMachine refusal → is_of_store refusal ≡ true) }
+        ensures kept { (J.Journal.entries self.new.journal ≡ J.Journal.entries self.old.journal)
+            × (self.new.by ≡ self.old.by) }
+        // at each state at which the office stands
+        ensures clean { O.CarryOut.is_clean self.new.office.now → O.CarryOut.is_clean self.old.office.now }
+        ensures holder { (machine : Machine) → O.CarryOut.is_clean self.new.office.now
+            → O.CarryOut.stands_at self.old.office.now machine
+            → IfOk result (λ holder. (holder ≡ holder_of machine take_number)
+            × O.CarryOut.stands_at self.new.office.now machine) }
+        ensures memory { (machine : Machine) → O.CarryOut.is_clean self.new.office.now
+            → O.CarryOut.stands_at self.old.office.now machine
+            → result ≡ Err Memory → O.CarryOut.stands_at self.new.office.now machine }
+        ensures cause { (machine : Machine) → O.CarryOut.is_clean self.new.office.now
+            → O.CarryOut.stands_at self.old.office.now machine → ¬ O.CarryOut.is_closed self.old.office.now
+            → result ≡ Err Memory → O.CarryOut.is_closed self.new.office.now
+            → O.CarryOut.cannot_go_on self.new.office.now }
+        ensures closed { (machine : Machine) → O.CarryOut.is_clean self.new.office.now
+            → O.CarryOut.stands_at self.old.office.now machine
+            → result ≡ Err Closed
+            → O.CarryOut.is_closed self.new.office.now × O.CarryOut.stands_at self.new.office.now machine }
+        ensures store { (machine : Machine) → O.CarryOut.is_clean self.new.office.now
+            → O.CarryOut.stands_at self.old.office.now machine
+            → (fault : StoreFault) → result ≡ Err (OfStore fault)
+            → O.CarryOut.leaves self.new.office.now machine machine fault }
+    {
+        self.office.holder_of(take_number)
+    }
+
+    // It promises what its office promises, and notes who gives the commands that come next.
+    fn asked_by(&mut self, name: Option<&Text>)
+        ensures clean { O.CarryOut.is_clean self.new.office.now ↔ O.CarryOut.is_clean self.old.office.now }
+        ensures closed { O.CarryOut.is_closed self.new.office.now ↔ O.CarryOut.is_closed self.old.office.now }
+        ensures stands { (machine : Machine)
+            → O.CarryOut.stands_at self.new.office.now machine ↔ O.CarryOut.stands_at self.old.office.now machine }
+        ensures leaves { (before after : Machine) (fault : StoreFault)
+            → O.CarryOut.leaves self.new.office.now before after fault
+            ↔ O.CarryOut.leaves self.old.office.now before after fault }
+        ensures goes_on { O.CarryOut.cannot_go_on self.new.office.now ↔ O.CarryOut.cannot_go_on self.old.office.now }
+        ensures by { self.new.by ≡ asker_of (option_copied name.entry) }
+        ensures entries { J.Journal.entries self.new.journal ≡ J.Journal.entries self.old.journal }
+    {
+        self.by = Asker::of(name);
+        self.office.asked_by(name);
     }
 
     ghost consistent = { λ journaled machine stands. O.CarryOut.consistent journaled.office.now machine stands };
 }
 
 impl<'a, O: MergeFrom, J: Journal + Drop> MergeFrom for Journaled<'a, O, J> {
-    // It promises what its office promises, of the same states, and has an entry more for a merge that was accepted.
+    // It promises what its office promises, of the same states, and has an entry more for a merge
+    // that was accepted.
     fn merge_from<R: BufRead + Drop>(
         &mut self,
         sources: R,
@@ -149,7 +257,8 @@ impl<'a, O: MergeFrom, J: Journal + Drop> MergeFrom for Journaled<'a, O, J> {
         ensures names { ¬ O.CarryOut.is_closed self.old.office.now → (refusal : AnyRefusal)
             → archs_refusal parts.items ≡ Some refusal → result ≡ Err refusal }
         ensures entries { J.Journal.entries self.new.journal
-            ≡ J.Journal.entries self.old.journal ++ entries_of_merge result }
+            ≡ J.Journal.entries self.old.journal ++ entries_of_merge self.old.by result }
+        ensures by { self.new.by ≡ self.old.by }
         // at each state at which the office stands
         ensures clean { O.CarryOut.is_clean self.new.office.now → O.CarryOut.is_clean self.old.office.now }
         ensures reply { (machine : Machine) → O.CarryOut.is_clean self.new.office.now
@@ -181,7 +290,7 @@ impl<'a, O: MergeFrom, J: Journal + Drop> MergeFrom for Journaled<'a, O, J> {
     {
         let answer = self.office.merge_from(sources, parts);
         if let Ok(reply) = &answer {
-            self.journal.append_merge(reply);
+            self.journal.append_merge(&self.by, reply);
         }
         answer
     }

@@ -8,8 +8,9 @@ ghost use Rattle.wb_states.specs.Forms.{AddArch, AddBuilder, Attempted, BuildPri
 ghost use Rattle.wb_states.specs.Forms.{DepWait, Enter, Fail, GiveBack, Next, NotForUs, PutBack};
 ghost use Rattle.wb_states.specs.Forms.{Rebuild, Take, Uploaded, Waits};
 
-/// What a journal has of a command is the body of the request that gives it, for each command that a request gives but a
-/// report, of which it has the length alone: so what was accepted can be given again.
+/// What a journal has of a command is the body of the request that gives it, for each command that
+/// a request gives but a report, of which it has the length alone: so what was accepted can be
+/// given again.
 pub fn entries_are_bodies_of_requests()
     // of builders
     ensures next { (arch builder : List ℕ) (after : Option ℕ)
@@ -57,8 +58,8 @@ pub fn entries_are_bodies_of_requests()
         ≡ Some (BuildPriority arch source version (negsuc less)) }
 {}
 
-/// What a journal has of such a command has the keys of the table by which a request is read, and the key of its name, each
-/// at its place in the order of bytes, and no other.
+/// What a journal has of such a command has the keys of the table by which a request is read, and
+/// the key of its name, each at its place in the order of bytes, and no other.
 pub fn entries_have_the_keys_of_requests()
     // of builders
     ensures next { (arch builder : List ℕ) (after : Option ℕ)
