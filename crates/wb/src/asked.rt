@@ -235,8 +235,8 @@ fn copy_of<D: Disk>(alloc: Global, file: &mut D) -> io::Result<Memory>
     Ok(copy)
 }
 
-/// The files of an office that is only asked: the database is read alone, and a copy in memory stands for its log, to which
-/// each opening writes.
+/// The files of an office that is only asked: the database is read alone, and a copy in memory
+/// stands for its log, to which each opening writes.
 pub(crate) fn asked_files<D: Disk + Drop>(
     alloc: Global,
     log: &mut D,

@@ -1,8 +1,8 @@
 //! By which program a file was compressed.
 
-/// The name of the program that compressed a file which begins with these bytes, if one did. Each begins as the program's own
-/// format says: xz, section 2.1.1.1; gzip, RFC 1952, section 2.3.1; bzip2, whose first block follows at once; and zstd,
-/// RFC 8878, section 3.1.1.
+/// The name of the program that compressed a file which begins with these bytes, if one did. Each
+/// begins as the program's own format says: xz, section 2.1.1.1; gzip, RFC 1952, section 2.3.1;
+/// bzip2, whose first block follows at once; and zstd, RFC 8878, section 3.1.1.
 pub(crate) fn compressor_of(bytes: &[u8]) -> Option<&'static str> {
     match bytes {
         [0xfd, b'7', b'z', b'X', b'Z', 0, ..] => Some("xz"),

@@ -1,14 +1,16 @@
-//! An office that says, for a person, which word of a command or a query was refused, and what it has to be.
+//! An office that says, for a person, which word of a command or a query was refused, and what it
+//! has to be.
 
 use crate::progress::is_watched;
 use crate::reasons::{Reason, name_of_query, reason_of, reason_of_merge, reason_of_query};
+use deb_text::Text;
 use std::io::BufRead;
 use wb_archive::{ArchList, MergeFrom};
 use wb_states::{Answer, Command, Query, Refusal, Reply};
 use wb_step::CarryOut;
 
-/// An office that says on standard error which word was refused, if a person may read that. Its answers are those of the
-/// office.
+/// An office that says on standard error which word was refused, if a person may read that. Its
+/// answers are those of the office.
 #[derive(Drop)]
 pub(crate) struct Explained<'a, O: CarryOut> {
     rt: &'a HostRuntime,
@@ -92,6 +94,14 @@ impl<'a, O: CarryOut> CarryOut for Explained<'a, O> {
             }
         }
         answer
+    }
+
+    fn holder_of(&mut self, take_number: u64) -> Result<Option<Text>, Refusal> {
+        self.office.holder_of(take_number)
+    }
+
+    fn asked_by(&mut self, name: Option<&Text>) {
+        self.office.asked_by(name);
     }
 
     ghost consistent = { λ explained machine stands. O.CarryOut.consistent explained.office.now machine stands };

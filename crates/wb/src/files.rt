@@ -13,23 +13,25 @@ use std::io;
 use wb_states::StoreFault;
 use wb_store::opening_fault;
 
-/// How many pages of 4,096 bytes are kept in memory after they were read: 8 MB, so that a command finds what it looks up
-/// without the disk.
+/// How many pages of 4,096 bytes are kept in memory after they were read: 8 MB, so that a command
+/// finds what it looks up without the disk.
 const PAGES_KEPT: usize = 2_000;
 
 // With 2,000 the log of such a merge had 50 MB in place of 61. With 100 the statements took an
 // eighth more time.
-/// How many pages that a command wrote are in memory before they go to the log, ahead of the commit: 2 MB. The statements of
-/// a merge of three architectures took 18 MB more with 2,000, and were no quicker: a savepoint has pages of its own, and
-/// both grow by doubling. A hand-out writes some ten pages, so it never comes to this.
+/// How many pages that a command wrote are in memory before they go to the log, ahead of the
+/// commit: 2 MB. The statements of a merge of three architectures took 18 MB more with 2,000, and
+/// were no quicker: a savepoint has pages of its own, and both grow by doubling. A hand-out writes
+/// some ten pages, so it never comes to this.
 const PAGES_BEFORE_LOG: usize = 500;
 
 // `wb` opens its files itself: the kit's `Connection::open_with_sums` copies at 1,000 pages, some
 // 140 hand-outs, and of a file that cannot be opened says neither the system's reason nor which
 // program has it. With 8,000 a hand-out took 3 % less over 35,000 records, and a tenth to a quarter
 // less over 350,000; 4,000 and 32,000 differ from it by less than the runs do.
-/// How many pages the log has before it is copied into the database and begun anew: 33 MB. Each of these copies has the
-/// disk write five times, so a longer log makes commands quicker, and a start after a kill slower by the reading of it.
+/// How many pages the log has before it is copied into the database and begun anew: 33 MB. Each of
+/// these copies has the disk write five times, so a longer log makes commands quicker, and a start
+/// after a kill slower by the reading of it.
 const PAGES_IN_LOG: usize = 8_000;
 
 /// Whether SQLite takes the name for no file: for a database in memory, or for a URI.
@@ -37,9 +39,9 @@ pub(crate) fn names_no_file(name: &str) -> bool {
     name == ":memory:" || name.starts_with("file:")
 }
 
-/// Opens the database of this name and its log, which are made if they are not there, with a sum of each page. Says why
-/// they cannot be opened, and answers what that is to the store: `Memory` if memory ran out, `NotOffice` if they are
-/// there and hold no database, and else `Device`.
+/// Opens the database of this name and its log, which are made if they are not there, with a sum of
+/// each page. Says why they cannot be opened, and answers what that is to the store: `Memory` if
+/// memory ran out, `NotOffice` if they are there and hold no database, and else `Device`.
 pub(crate) fn connect(
     rt: &HostRuntime,
     file: &str,
@@ -63,7 +65,8 @@ pub(crate) fn connect(
     }
 }
 
-/// Opens the database of this name to be asked alone: nothing is written to it or its log. `None` if it cannot be opened so.
+/// Opens the database of this name to be asked alone: nothing is written to it or its log. `None`
+/// if it cannot be opened so.
 pub(crate) fn connect_to_ask(
     rt: &HostRuntime,
     file: &str,
@@ -96,7 +99,8 @@ fn refuse_files(rt: &HostRuntime, file: &str, error: OpenError) -> StoreFault {
     }
 }
 
-/// Says for which reason of the system the files are not opened, and answers what that is to the store.
+/// Says for which reason of the system the files are not opened, and answers what that is to the
+/// store.
 fn refuse_system(rt: &HostRuntime, file: &str, error: io::Error) -> StoreFault {
     match error.kind() {
         io::ErrorKind::OutOfMemory => refuse(rt, file, StoreFault::Memory, StoreFault::Memory),

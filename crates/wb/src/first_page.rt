@@ -28,10 +28,12 @@ const RECORDS: &[u8] = b"TABLE source_record(";
 pub(crate) struct FirstPage {
     /// What the file begins with.
     pub(crate) front: Front,
-    /// Whether the pages of the database have room for checksums; those of a file that holds none will have it.
+    /// Whether the pages of the database have room for checksums; those of a file that holds none
+    /// will have it.
     pub(crate) pages: Pages,
-    /// It has the records of an office of format 1, and none of format 2. That is only said, so a page that tells it wrongly, as
-    /// one of which the list of tables stands elsewhere, changes nothing.
+    /// It has the records of an office of format 1, and none of format 2. That is only said, so a
+    /// page that tells it wrongly, as one of which the list of tables stands elsewhere, changes
+    /// nothing.
     pub(crate) is_of_first_format: bool,
 }
 
@@ -62,8 +64,9 @@ impl FirstPage {
         }
     }
 
-    /// What the first page of this file says. It is to be read before the file is opened as a database, since the end of a later
-    /// read would let go of the locks on it. What is no regular file is not read: a pipe would be waited for.
+    /// What the first page of this file says. It is to be read before the file is opened as a
+    /// database, since the end of a later read would let go of the locks on it. What is no regular
+    /// file is not read: a pipe would be waited for.
     pub(crate) fn read(rt: &HostRuntime, file: &str) -> FirstPage {
         match fs::metadata(rt, file) {
             Ok(found) if found.is_file() => read_regular(rt, file),

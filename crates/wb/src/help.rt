@@ -17,7 +17,8 @@ pub(crate) fn print_help(rt: &impl Print, words: &[&str]) -> io::Result<()> {
     }
 }
 
-/// The word that names a subcommand, if it is one: that after `help`, or else the first after the store's.
+/// The word that names a subcommand, if it is one: that after `help`, or else the first after the
+/// store's.
 fn named_in<'a>(words: &[&'a str]) -> Option<&'a str> {
     match words {
         ["help", name, ..] => Some(*name),

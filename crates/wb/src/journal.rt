@@ -1,4 +1,5 @@
 //! The journal of an office in a file.
+ghost use Rattle.std.specs.Prelude.{◌≡◌, [], ◌∷◌, ◌++◌};
 
 use deb_text::Items;
 use http_server::Log;
@@ -6,13 +7,15 @@ use jiff::Timestamp;
 use std::alloc::Global;
 use std::fs::{File, OpenOptions};
 use std::io::{self, Read, Seek, SeekFrom, Write};
+use std::marker::Model;
 use std::os::unix::fs::OpenOptionsExt;
-use wb_journal::{Journal, entry_line, merge_entry_line};
+use wb_journal::{Asker, Journal, entry_line, merge_entry_line};
 use wb_states::command::Merge;
 use wb_states::{Command, Reply};
 
-/// A journal in a file, which each entry is appended to: the file may be moved away at any time. An entry that cannot be written
-/// is lost, which is said on standard error once, and again with their number when the next is written.
+/// A journal in a file, which each entry is appended to: the file may be moved away at any time. An
+/// entry that cannot be written is lost, which is said on standard error once, and again with their
+/// number when the next is written.
 #[derive(Drop)]
 pub(crate) struct FileJournal<'a> {
     rt: &'a HostRuntime,
@@ -23,7 +26,7 @@ pub(crate) struct FileJournal<'a> {
     /// How many entries were lost since the last that was written.
     lost: u64,
     /// The entries that were given, which only proofs read.
-    entries: Log<Command, Reply>,
+    entries: Entries,
 }
 
 impl<'a> FileJournal<'a> {
@@ -34,23 +37,23 @@ impl<'a> FileJournal<'a> {
             file,
             is_cut: ends_within_a_line(rt, file),
             lost: 0,
-            entries: Log::new(),
+            entries: Entries::new(),
         }
     }
 
     /// Appends a line for the command to the file.
-    fn write_command(&mut self, command: &Command, reply: &Reply) -> io::Result<()> {
+    fn write_command(&mut self, by: &Asker, command: &Command, reply: &Reply) -> io::Result<()> {
         let alloc = self.rt.alloc();
         let time = time_now(self.rt, alloc);
-        let line = entry_line(alloc, time.as_deref(), command, reply)?;
+        let line = entry_line(alloc, by.name(), time.as_deref(), command, reply)?;
         self.write(line.as_str())
     }
 
     /// Appends a line for a merge to the file.
-    fn write_merge(&mut self, reply: &Reply) -> io::Result<()> {
+    fn write_merge(&mut self, by: &Asker, reply: &Reply) -> io::Result<()> {
         let alloc = self.rt.alloc();
         let time = time_now(self.rt, alloc);
-        let line = merge_entry_line(alloc, time.as_deref(), reply)?;
+        let line = merge_entry_line(alloc, by.name(), time.as_deref(), reply)?;
         self.write(line.as_str())
     }
 
@@ -100,35 +103,76 @@ impl<'a> FileJournal<'a> {
 }
 
 impl<'a> Journal for FileJournal<'a> {
-    ghost entries = { λ journal. journal.entries.items };
+    ghost entries = { λ journal. journal.entries };
 
-    fn append(&mut self, command: &Command, reply: &Reply) {
-        let entries = self.entries.and(command, reply);
-        let written = self.write_command(command, reply);
+    fn append(&mut self, by: &Asker, command: &Command, reply: &Reply) {
+        let entries = self.entries.and(by, command, reply);
+        let written = self.write_command(by, command, reply);
         self.report(written);
         self.entries = entries;
     }
 
-    fn append_merge(&mut self, reply: &Reply) {
+    fn append_merge(&mut self, by: &Asker, reply: &Reply) {
         let alloc = self.rt.alloc();
         let merge = Command::Merge(Merge {
             sources: Items::new(alloc),
             parts: Items::new(alloc),
         });
-        let entries = self.entries.and(&merge, reply);
-        let written = self.write_merge(reply);
+        let entries = self.entries.and(by, &merge, reply);
+        let written = self.write_merge(by, reply);
         self.report(written);
         self.entries = entries;
     }
 }
 
-/// The time in UTC to the second, as RFC 3339 writes it; none if the clock shows none, or there is no memory for it.
+/// The entries that a journal was given, the oldest first, which only proofs read. It takes no
+/// memory and does nothing.
+#[derive(Drop)]
+struct Entries {
+    // A log has two things of each entry: so the first is a log of one entry, with who gave the
+    // command and the command.
+    log: Log<Log<Asker, Command>, Reply>,
+}
+
+impl Model for Entries {
+    ghost use Rattle.std.specs.Prelude.{List, flat_map, map};
+    ghost use Rattle.wb_journal.specs.Appended.{Entry};
+
+    ghost Value = { List Entry };
+
+    ghost view = { λ entries. flat_map (λ given. map
+        (λ pair. record { by = pair.0; command = pair.1; reply = given.1 }) given.0.items) entries.log.items };
+}
+
+impl Entries {
+    /// No entry.
+    fn new() -> Entries
+        ensures value { result ≡ [] }
+    {
+        Entries { log: Log::new() }
+    }
+
+    /// The same, and then the entry of this command, with who gave it and its reply.
+    fn and(&self, by: &Asker, command: &Command, reply: &Reply) -> Entries
+        ensures value { result ≡ self.now
+            ++ record { by = by.now; command = command.now; reply = reply.now } ∷ [] }
+    {
+        let given = Log::new().and(by, command);
+        Entries {
+            log: self.log.and(&given, reply),
+        }
+    }
+}
+
+/// The time in UTC to the second, as RFC 3339 writes it; none if the clock shows none, or there is
+/// no memory for it.
 fn time_now(rt: &HostRuntime, alloc: Global) -> Option<String> {
     let now = Timestamp::now(rt).ok()?;
     format!(in alloc; "{now:.0}").ok()
 }
 
-/// Whether the file of this name has a last line without a line feed, as after a stop within a write.
+/// Whether the file of this name has a last line without a line feed, as after a stop within a
+/// write.
 fn ends_within_a_line(rt: &HostRuntime, name: &str) -> bool {
     last_byte(rt, name).is_ok_and(|byte| byte != b'\n')
 }

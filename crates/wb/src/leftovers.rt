@@ -10,7 +10,8 @@ use std::io::ErrorKind;
 /// How many bytes the making of a database writes into its file first: those of a page.
 const FIRST_PAGE: u64 = 4_096;
 
-/// What stood at the names of a file and its log before an opening that was refused, and what stands there after it.
+/// What stood at the names of a file and its log before an opening that was refused, and what
+/// stands there after it.
 #[derive(Clone, Copy, Debug, PartialEq, Eq)]
 pub(crate) struct Leftovers {
     /// There was a file.
@@ -24,7 +25,8 @@ pub(crate) struct Leftovers {
 }
 
 impl Leftovers {
-    /// Whether the log is removed: it was not there, and has no frame, or its file is new and is removed too.
+    /// Whether the log is removed: it was not there, and has no frame, or its file is new and is
+    /// removed too.
     fn removes_log(self) -> bool
         ensures value { result ≡ removes_log self }
         ensures new { IsTrue result → self.log_was_there ≡ false }
@@ -42,7 +44,8 @@ impl Leftovers {
         self.is_new_file() && (!self.log_has_frames || !self.log_was_there)
     }
 
-    /// Whether the file was not there, and has at most the page that the making of a database writes first.
+    /// Whether the file was not there, and has at most the page that the making of a database
+    /// writes first.
     fn is_new_file(self) -> bool
         ensures value { result ≡ is_new_file self }
     {
@@ -66,7 +69,8 @@ impl Before {
         }
     }
 
-    /// Removes what a refused opening made. The log goes before the file, so that it is never left alone.
+    /// Removes what a refused opening made. The log goes before the file, so that it is never left
+    /// alone.
     pub(crate) fn restore(self, rt: &HostRuntime, names: &FileNames<'_>) {
         let found = Leftovers {
             file_was_there: self.file_was_there,
@@ -83,7 +87,8 @@ impl Before {
     }
 }
 
-/// Removes what an opening made, if it is there, and answers whether it is gone. That it is not is reported on standard error.
+/// Removes what an opening made, if it is there, and answers whether it is gone. That it is not is
+/// reported on standard error.
 pub(crate) fn remove(rt: &HostRuntime, name: &str) -> bool {
     match fs::remove_file(rt, name) {
         Ok(()) => true,

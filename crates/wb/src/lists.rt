@@ -15,7 +15,8 @@ use wb_lists::Lists;
 /// After how many bytes of a long list it is said again how far it is read.
 const REPORTED_BYTES: u64 = 16_000_000;
 
-/// The lists and reports whose names are paths from the working directory. Messages go to standard error.
+/// The lists and reports whose names are paths from the working directory. Messages go to standard
+/// error.
 pub(crate) struct FileLists<'a, F> {
     rt: &'a F,
     /// Whether a person may read the messages.
@@ -70,7 +71,8 @@ impl<'a, F: Files + Eprint> Lists for FileLists<'a, F> {
 }
 
 impl<'a, F: Files + Eprint> RunLists for FileLists<'a, F> {
-    // A report is read past its buffer, in which there is nothing: that the read failed is reported by whoever asked for it.
+    // A report is read past its buffer, in which there is nothing: that the read failed is reported
+    // by whoever asked for it.
     fn read(list: &mut BufReader<FileList<'a, F>>, room: &mut [u8]) -> io::Result<usize> {
         list.get_mut().read_on(room)
     }
@@ -80,8 +82,8 @@ impl<'a, F: Files + Eprint> RunLists for FileLists<'a, F> {
     }
 }
 
-/// A list or a report that was opened. Why a read of it failed is said on standard error, since the answer says only that one did; and
-/// how far a long one is read, if a person may read that.
+/// A list or a report that was opened. Why a read of it failed is said on standard error, since the
+/// answer says only that one did; and how far a long one is read, if a person may read that.
 pub(crate) struct FileList<'a, F: Files> {
     rt: &'a F,
     name: String,
@@ -113,7 +115,8 @@ impl<'a, F: Files + Eprint> FileList<'a, F> {
         }
     }
 
-    /// Reads on, and says of the first bytes if they are those of a compressed file: what follows is no text then.
+    /// Reads on, and says of the first bytes if they are those of a compressed file: what follows
+    /// is no text then.
     fn read_on(&mut self, room: &mut [u8]) -> io::Result<usize>
         ensures bound { IfOk result (λ count. IsPrefixLen count room.new) }
     {

@@ -26,8 +26,8 @@ pub(crate) enum LockRefusal {
 // The system drops this lock when the program ends, also after a kill, which the number of a
 // process in a file outlives. The kit's `sqlite` locks the file of the office as well, which keeps
 // sqlite3 out.
-/// Takes the lock on the file of these names, which is a file with the file's name and `.lock` after it that its owner alone
-/// may open.
+/// Takes the lock on the file of these names, which is a file with the file's name and `.lock`
+/// after it that its owner alone may open.
 pub(crate) fn lock_of(rt: &HostRuntime, names: &FileNames<'_>) -> Result<FileLock, LockRefusal> {
     let name = names.lock.as_str();
     let (held, is_new) = match open_lock(rt, name) {
@@ -63,8 +63,8 @@ fn open_lock(rt: &HostRuntime, name: &str) -> io::Result<(fs::File, bool)> {
     }
 }
 
-/// Whether the file of the lock still has a name: a program whose opening was refused removes the lock that it made, and who
-/// opened it meanwhile locks what nobody else will find.
+/// Whether the file of the lock still has a name: a program whose opening was refused removes the
+/// lock that it made, and who opened it meanwhile locks what nobody else will find.
 fn has_name(held: &fs::File) -> io::Result<bool> {
     Ok(held.metadata()?.nlink() > 0)
 }

@@ -9,6 +9,7 @@ mod first_page;
 mod folder;
 mod help;
 mod journal;
+mod keys;
 mod leftovers;
 mod lists;
 mod lock;
@@ -16,6 +17,7 @@ mod memory;
 mod names;
 mod progress;
 mod reasons;
+mod renewed;
 mod serve;
 mod starting;
 mod store;
@@ -46,13 +48,14 @@ fn say(rt: &impl Eprint, message: Message<'_>) {
     let _ = eprintln!(rt; "wb: {message}");
 }
 
-/// Answers the lines of the input, a single command or the requests on a port, or says how the program is used or which it
-/// is.
+/// Answers the lines of the input, a single command or the requests on a port, or says how the
+/// program is used or which it is.
 ///
-/// Ends with 0 if all was accepted or a query was answered, if all connections were served, or if help or the version was
-/// asked for, with 1 after a refusal, with 2 if a line or the program's own words are no command, and with 3 if a file cannot be
-/// read, if the store cannot be opened or failed, if the port cannot be taken, or if reading, writing or memory
-/// failed before the end of the input.
+/// Ends with 0 if all was accepted or a query was answered, if all connections were served, or if
+/// help or the version was asked for, with 1 after a refusal, with 2 if a line or the program's own
+/// words are no command, and with 3 if a file cannot be read, if the store cannot be opened or
+/// failed, if the port cannot be taken, or if reading, writing or memory failed before the end of
+/// the input.
 fn main(rt: HostRuntime) -> ExitCode {
     let status = match words_of(&rt) {
         Some(words) => start(&rt, &words),
@@ -88,17 +91,19 @@ fn start_with(rt: &HostRuntime, words: &[&str]) -> u8 {
                 requests,
                 journal,
                 lists,
+                keys,
             },
         ) => match serve::listen(rt, port) {
-            Some(listener) => {
-                let service = Service {
+            Some(listener) if serve::has_good_keys(rt, keys) => {
+                let options = ServeOptions {
                     listener: &listener,
                     requests,
                     lists,
+                    keys,
                 };
-                open_for(rt, store, Work::Serve { service, journal })
+                open_for(rt, store, Work::Serve { options, journal })
             }
-            None => status::STOPPED,
+            _ => status::STOPPED,
         },
         Ok(Start::Ask { store, words }) => open_for(rt, store, Work::Ask { words }),
         Ok(Start::CarryOut { store, words }) => open_for(rt, store, Work::CarryOut { words }),
@@ -111,7 +116,8 @@ fn start_with(rt: &HostRuntime, words: &[&str]) -> u8 {
     }
 }
 
-/// What an office is opened for. A port is taken before that, so that no file is made if the port cannot be taken.
+/// What an office is opened for. A port is taken and keys are read before that, so that no file is
+/// made if the port cannot be taken, or the keys cannot be read.
 #[derive(Clone, Copy)]
 pub(crate) enum Work<'a> {
     /// To answer the lines of standard input, with a journal in this file if one is named.
@@ -120,7 +126,7 @@ pub(crate) enum Work<'a> {
     },
     /// To answer requests, with a journal in this file if one is named.
     Serve {
-        service: Service<'a>,
+        options: ServeOptions<'a>,
         journal: Option<&'a str>,
     },
     /// To answer the query of these words, which leaves the office as it is.
@@ -134,15 +140,18 @@ pub(crate) enum Work<'a> {
 }
 
 /// Where requests come in, and how many connections are served; without a number, all until the
-/// program is ended. And the folder of the lists that a request may merge, if there is one.
+/// program is ended. And the folder of the lists that a request may merge, if there is one, and the
+/// file of the keys, without which everybody may ask for everything.
 #[derive(Clone, Copy)]
-pub(crate) struct Service<'a> {
+pub(crate) struct ServeOptions<'a> {
     listener: &'a TcpListener,
     requests: Option<u32>,
     lists: Option<&'a str>,
+    keys: Option<&'a str>,
 }
 
-/// Has an office do its work, over the tables in the file if one is named, and otherwise over tables in memory.
+/// Has an office do its work, over the tables in the file if one is named, and otherwise over
+/// tables in memory.
 fn open_for(rt: &HostRuntime, store: Option<&str>, work: Work<'_>) -> u8 {
     match store {
         Some(file) => store::open_for(rt, file, work),
@@ -159,13 +168,13 @@ pub(crate) fn act<S: Alter + Drop>(rt: &HostRuntime, office: &mut Office<S>, wor
             journal: Some(file),
         } => run(rt, &mut journaled(rt, office, file)),
         Work::Serve {
-            service,
+            options,
             journal: None,
-        } => serve::serve(rt, office, service),
+        } => serve::serve(rt, office, options),
         Work::Serve {
-            service,
+            options,
             journal: Some(file),
-        } => serve::serve(rt, &mut journaled(rt, office, file), service),
+        } => serve::serve(rt, &mut journaled(rt, office, file), options),
     }
 }
 

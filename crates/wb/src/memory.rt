@@ -13,12 +13,13 @@ use sqlite::{Files, Options};
 use sqlite_disk::Memory;
 use wb_office::Office;
 
-/// How many pages of 4,096 bytes are kept apart after they were read, and how many that a command wrote before they go to the
-/// log.
+/// How many pages of 4,096 bytes are kept apart after they were read, and how many that a command
+/// wrote before they go to the log.
 const PAGES_AT_HAND: usize = 2_000;
 
-/// How many pages the log has before it is copied into the database and begun anew. Each commit copies the log, and each of
-/// these copies the database, so that a file in memory knows what was synced.
+/// How many pages the log has before it is copied into the database and begun anew. Each commit
+/// copies the log, and each of these copies the database, so that a file in memory knows what was
+/// synced.
 const PAGES_IN_LOG: usize = 100;
 
 /// The salt of the log, which nobody else writes.

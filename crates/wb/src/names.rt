@@ -20,7 +20,8 @@ pub(crate) struct FileNames<'a> {
 }
 
 impl<'a> FileNames<'a> {
-    /// The names of this file and of what stands beside it. The only error is that there is no memory for them.
+    /// The names of this file and of what stands beside it. The only error is that there is no
+    /// memory for them.
     pub(crate) fn new(alloc: Global, file: &'a str) -> Result<FileNames<'a>, AllocError> {
         Ok(FileNames {
             file,

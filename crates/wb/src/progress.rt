@@ -15,26 +15,30 @@ pub(crate) fn is_watched(rt: &HostRuntime) -> bool {
     rt.stderr().is_terminal()
 }
 
-/// Says that the file of the records is being opened, if that takes seconds and a person may read it.
+/// Says that the file of the records is being opened, if that takes seconds and a person may read
+/// it.
 pub(crate) fn report_opening(rt: &HostRuntime, file: &str) {
     if is_watched(rt) {
         let _ = report_file(rt, "opening", file, SLOW_STORE);
     }
 }
 
-/// Says that the file of the records is of format 1, whose opening takes long, so that nobody takes it for a hang.
+/// Says that the file of the records is of format 1, whose opening takes long, so that nobody takes
+/// it for a hang.
 pub(crate) fn report_first_format(rt: &impl Eprint, file: &str) {
     let _ = eprintln!(rt;
         "wb: {file} is of format 1: opening it takes seconds for 10,000 records, and minutes for 35,000"
     );
 }
 
-/// Says that this list or report is being read, if it is long, and answers how many bytes it has then.
+/// Says that this list or report is being read, if it is long, and answers how many bytes it has
+/// then.
 pub(crate) fn size_of_long(rt: &(impl Files + Eprint), name: &str) -> Option<u64> {
     report_file(rt, "reading", name, SLOW_LIST)
 }
 
-/// Says what is done with the file of this name, if it has at least so many bytes, and answers how many it has then.
+/// Says what is done with the file of this name, if it has at least so many bytes, and answers how
+/// many it has then.
 fn report_file(rt: &(impl Files + Eprint), doing: &str, name: &str, least: u64) -> Option<u64> {
     let size = fs::metadata(rt, name).ok()?.len();
     if size < least {

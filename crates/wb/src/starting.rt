@@ -24,7 +24,8 @@ pub(crate) enum Front {
     Database,
     /// It begins with another byte than 0, and not as a database does.
     Other,
-    /// It begins with a byte 0, as a crash in the making of a database may leave it; or it cannot be read.
+    /// It begins with a byte 0, as a crash in the making of a database may leave it; or it cannot
+    /// be read.
     Unclear,
 }
 
@@ -95,8 +96,9 @@ pub(crate) enum Decision {
     LetOpeningRefuse,
 }
 
-/// What becomes of the file of these facts. An office begins only where none is: in a file that holds nothing, beside a log
-/// without a commit, or in a database with checksums that has no name of the office's.
+/// What becomes of the file of these facts. An office begins only where none is: in a file that
+/// holds nothing, beside a log without a commit, or in a database with checksums that has no name
+/// of the office's.
 pub(crate) fn what_becomes(facts: FileFacts) -> Decision
     ensures value { result ≡ decision facts.front facts.log facts.pages facts.tables }
     // what the lines of the decision come to

@@ -18,8 +18,8 @@ use wb_office::Office;
 use wb_states::StoreFault;
 use wb_store::RefusedConnection;
 
-/// That the store is not opened. Why was said on standard error; the answer on standard output, which names it so, is still
-/// to be written.
+/// That the store is not opened. Why was said on standard error; the answer on standard output,
+/// which names it so, is still to be written.
 #[derive(Clone, Copy)]
 pub(crate) struct Refused {
     name: &'static str,
@@ -28,7 +28,8 @@ pub(crate) struct Refused {
 // A link is resolved first: the kit's `sqlite` keeps the log beside the file to which it leads, so
 // that is where the log is looked for, and where the lock is. A link to no file is refused, since a
 // new office behind it is more likely a slip.
-/// Has the office over the records in the file do its work, or in the file to which a link of this name leads.
+/// Has the office over the records in the file do its work, or in the file to which a link of this
+/// name leads.
 pub(crate) fn open_for(rt: &HostRuntime, name: &str, work: Work<'_>) -> u8 {
     if names_no_file(name) {
         return answer_refusal(rt, refuse_name(rt, name));
@@ -53,8 +54,9 @@ fn open_file(rt: &HostRuntime, file: &str, work: Work<'_>) -> u8 {
     }
 }
 
-/// Has the office over the records in the file of these names do its work. One program at a time has the file: it holds the
-/// lock. What a refused opening made is removed while the lock is held, and the lock last.
+/// Has the office over the records in the file of these names do its work. One program at a time
+/// has the file: it holds the lock. What a refused opening made is removed while the lock is held,
+/// and the lock last.
 fn open_named(rt: &HostRuntime, names: &FileNames<'_>, work: Work<'_>) -> Result<u8, Refused> {
     let lock = match lock_of(rt, names) {
         Ok(lock) => lock,
@@ -76,9 +78,10 @@ fn open_named(rt: &HostRuntime, names: &FileNames<'_>, work: Work<'_>) -> Result
     opened
 }
 
-/// Has the office over the records in the file, which is locked, do its work. The file is made if it is not there, with a
-/// sum of each page. What becomes of one that is there, [`what_becomes`] says, by what is found of it before it is opened and
-/// after that. An office that is only asked leaves the file and its log as they are.
+/// Has the office over the records in the file, which is locked, do its work. The file is made if
+/// it is not there, with a sum of each page. What becomes of one that is there, [`what_becomes`]
+/// says, by what is found of it before it is opened and after that. An office that is only asked
+/// leaves the file and its log as they are.
 fn open_locked(rt: &HostRuntime, names: &FileNames<'_>, work: Work<'_>) -> Result<u8, Refused> {
     let page = FirstPage::read(rt, names.file);
     let facts = FileFacts {
@@ -108,8 +111,8 @@ fn open_locked(rt: &HostRuntime, names: &FileNames<'_>, work: Work<'_>) -> Resul
     }
 }
 
-/// Has the office over the records in the file answer the query of these words, and writes nothing to the file or its log.
-/// `None` if the file has no office yet, or cannot be opened so.
+/// Has the office over the records in the file answer the query of these words, and writes nothing
+/// to the file or its log. `None` if the file has no office yet, or cannot be opened so.
 fn ask_file(
     rt: &HostRuntime,
     file: &str,
@@ -129,8 +132,8 @@ fn ask_file(
     }
 }
 
-/// Has the office over the records in the file, of which this was found before it is opened, do its work, and keeps them in
-/// it.
+/// Has the office over the records in the file, of which this was found before it is opened, do its
+/// work, and keeps them in it.
 fn keep_file(
     rt: &HostRuntime,
     file: &str,
@@ -147,8 +150,8 @@ fn keep_file(
     }
 }
 
-/// Has the office in a database do its work, unless the decision refuses it. What else becomes of the file is reported on
-/// standard error: a new office may begin in it by a slip in its name.
+/// Has the office in a database do its work, unless the decision refuses it. What else becomes of
+/// the file is reported on standard error: a new office may begin in it by a slip in its name.
 fn keep_in(
     rt: &HostRuntime,
     file: &str,
@@ -176,14 +179,16 @@ fn keep_in(
     }
 }
 
-/// Closes the office in a file. What was committed stays if that fails, which is reported on standard error.
+/// Closes the office in a file. What was committed stays if that fails, which is reported on
+/// standard error.
 fn close(rt: &HostRuntime, file: &str, office: Office<FileStore<File>>) {
     if let Err(refused) = office.try_close() {
         let _ = eprintln!(rt; "wb: {file} was not closed: {}", refused.fault);
     }
 }
 
-/// Says what became of the file, if a new office begins in it, or its office was brought over into format 2.
+/// Says what became of the file, if a new office begins in it, or its office was brought over into
+/// format 2.
 fn report_decision(rt: &HostRuntime, file: &str, decision: Decision) {
     let _ = match decision {
         Decision::Begin => {
