@@ -18,6 +18,7 @@ pub(crate) fn show_all<W: Write>(alloc: Global, output: &mut W) -> Result<()> {
     below::show_reports(output)?;
     below::show_commits(output)?;
     below::show_requests(output)?;
+    below::show_keys(output)?;
     refusals::show_lists(output)?;
     refusals::show_stores(output)?;
     refusals::show_plain(output)?;

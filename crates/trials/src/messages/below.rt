@@ -1,4 +1,5 @@
-//! The faults of versions, control data, relations, words, reports and requests, and the errors of commits.
+//! The faults of versions, control data, relations, words, reports, requests and lines of keys, and
+//! the errors of commits.
 
 use crate::messages::show;
 use anyhow::Result;
@@ -7,6 +8,7 @@ use deb_relations::RelationFault;
 use deb_version::VersionFault;
 use sqlite::{Error, ErrorCode};
 use std::io::Write;
+use wb_keys::{BadLine, LineFault};
 use wb_merge::ReportFault;
 use wb_sql::CommitError;
 use wb_streams::Fault;
@@ -98,8 +100,10 @@ pub(crate) fn show_requests<W: Write>(output: &mut W) -> Result<()> {
         Fault::HeadTooLarge,
         Fault::BadHead,
         Fault::FromBrowser,
+        Fault::NoKey,
         Fault::NoRoute,
         Fault::WrongMethod,
+        Fault::NotAllowed,
         Fault::BadPath,
         Fault::NotSupported,
         Fault::NoLength,
@@ -110,4 +114,33 @@ pub(crate) fn show_requests<W: Write>(output: &mut W) -> Result<()> {
         Fault::NoList,
     ];
     show("Fault", &faults, output)
+}
+
+pub(crate) fn show_keys<W: Write>(output: &mut W) -> Result<()> {
+    let faults = [
+        LineFault::NotText,
+        LineFault::BadName,
+        LineFault::BadHash,
+        LineFault::NoRight,
+        LineFault::UnknownRight,
+        LineFault::BadBuilder,
+        LineFault::BadArch,
+        LineFault::TooMany,
+        LineFault::NameTwice,
+        LineFault::HashTwice,
+        LineFault::AnyoneWithHash,
+        LineFault::AnyoneTwice,
+    ];
+    show("LineFault", &faults, output)?;
+    let lines = [
+        BadLine {
+            line: 1,
+            fault: LineFault::BadHash,
+        },
+        BadLine {
+            line: u64::MAX,
+            fault: LineFault::NotText,
+        },
+    ];
+    show("BadLine", &lines, output)
 }
