@@ -14,6 +14,7 @@ from dataclasses import dataclass
 from pathlib import Path
 from typing import IO, Any
 
+from wb_tools.keys import NONE, NOT_ADMITTED, BadKey, KeyFile, add_key_option, right_for
 from wb_tools.lists import Refused, a_form, say
 from wb_tools.suites import NAME as SUITE
 
@@ -266,6 +267,7 @@ def add_url_options(parser: argparse.ArgumentParser) -> None:
         "--url", metavar="URL", type=url_word, help="ask the office that serves there, such as http://127.0.0.1:8080"
     )
     add_wait_option(parser)
+    add_key_option(parser)
 
 
 def add_wait_option(parser: argparse.ArgumentParser) -> None:
@@ -280,24 +282,24 @@ def path_of(query: str, words: Sequence[str]) -> str:
     return "/".join(["/v1", QUERIES[query][1], *(urllib.parse.quote(word, safe="") for word in words)])
 
 
-def body_of(url: str, path: str, wait: float = WAIT) -> bytes:
+def body_of(url: str, path: str, key: KeyFile, wait: float = WAIT) -> bytes:
     """The body of one answer, over a connection of its own, each part of which comes within so many seconds."""
-    parts = urllib.parse.urlsplit(url)
+    parts, shown = urllib.parse.urlsplit(url), key.fields()
     connection = http.client.HTTPConnection(parts.hostname or "", parts.port or 80, timeout=wait)
     try:
-        connection.request("GET", path, headers={"Connection": "close"})
+        connection.request("GET", path, headers={"Connection": "close", **shown})
         return connection.getresponse().read()
     finally:
         connection.close()
 
 
-def body_in_time(url: str, path: str, wait: float) -> bytes:
+def body_in_time(url: str, path: str, key: KeyFile, wait: float) -> bytes:
     """The body of an answer; an office that refuses the connection, or ends it, is asked again for so many seconds,
     since a query changes nothing. At a terminal this is said."""
     end, is_said = time.monotonic() + wait, not sys.stderr or not sys.stderr.isatty()
     while True:
         try:
-            return body_of(url, path)
+            return body_of(url, path, key)
         except ConnectionError:
             if time.monotonic() >= end:
                 raise
@@ -307,13 +309,15 @@ def body_in_time(url: str, path: str, wait: float) -> bytes:
         time.sleep(ASK_AGAIN)
 
 
-def meaning_of(body: bytes, query: str, words: Sequence[str]) -> str:
+def meaning_of(body: bytes, query: str, words: Sequence[str], key: KeyFile = NONE) -> str:
     """What the refusal of a query means, to stand after its name; empty if the name says it, or there is none."""
     try:
         found = json.loads(body.decode())
-        refused = "NoRoute" if found.get("http") == "NoRoute" else found["refused"]
+        refused = found["http"] if found.get("http") in ("NoRoute", *NOT_ADMITTED) else found["refused"]
     except (ValueError, RecursionError, KeyError, TypeError, AttributeError):
         return ""
+    if refused in NOT_ADMITTED:
+        return f"; {key.missing(refused, right_for(path_of(query, words)))}"
     if refused == "NoRoute":
         return f"; it is older than the query {query}, which wb 0.1.0 has" if query in WHOLE else ""
     if refused == "BadName" and query == "by-state" and words[1] not in STATES:
@@ -326,11 +330,14 @@ def meaning_of(body: bytes, query: str, words: Sequence[str]) -> str:
     return f"; {meanings[refused]}" if refused in meanings else ""
 
 
-def ask(url: str, query: str, words: Sequence[str], wait: float = 0) -> Answer:
-    """What a serving office answers to a query; one that does not serve yet has so many seconds to start."""
+def ask(url: str, query: str, words: Sequence[str], wait: float = 0, key: KeyFile = NONE) -> Answer:
+    """What a serving office answers to a query, to which this key is shown; one that does not serve yet has so many
+    seconds to start. An OSError says that it does not answer, or that the key cannot be shown."""
     asked = " ".join([query, *words])
     try:
-        body = body_in_time(url, path_of(query, words), wait)
+        body = body_in_time(url, path_of(query, words), key, wait)
+    except BadKey:
+        raise
     except OSError as why:
         raise OSError(why.errno, f"it does not answer: {why.strerror or why}", f"{url}, {asked}") from None
     except http.client.HTTPException as why:
@@ -338,23 +345,23 @@ def ask(url: str, query: str, words: Sequence[str], wait: float = 0) -> Answer:
     try:
         answer = read_answer(body)
     except Refused as why:
-        raise type(why)(f"{url}, {asked}: {why}{meaning_of(body, query, words)}") from None
+        raise type(why)(f"{url}, {asked}: {why}{meaning_of(body, query, words, key)}") from None
     if answer is None:
         raise Refused(f"{url}, {asked}: this is the answer to a command")
     return answer
 
 
-def archs_of(url: str, wait: float = 0) -> list[str]:
+def archs_of(url: str, wait: float = 0, key: KeyFile = NONE) -> list[str]:
     """The architectures of a serving office, by name; NoRoute if it is older than this query."""
-    answer = ask(url, "archs", [], wait)
+    answer = ask(url, "archs", [], wait, key)
     if not isinstance(answer, Archs):
         raise Refused(f"{url}, archs: this is no answer to archs")
     return [one.arch for one in answer.archs]
 
 
-def builders_of(url: str, wait: float = 0) -> list[str]:
+def builders_of(url: str, wait: float = 0, key: KeyFile = NONE) -> list[str]:
     """The builders of a serving office, by name; NoRoute if it is older than this query."""
-    answer = ask(url, "builders", [], wait)
+    answer = ask(url, "builders", [], wait, key)
     if not isinstance(answer, Builders):
         raise Refused(f"{url}, builders: this is no answer to builders")
     return list(dict.fromkeys(one.builder for one in answer.builders))

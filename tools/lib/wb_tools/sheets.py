@@ -132,7 +132,7 @@ def asked(index: Index, words: argparse.Namespace, state: str) -> Iterator[tuple
     """The records in a state of a serving office, of one architecture or of all that the journal names, and since when
     each is in it."""
     for arch in [words.arch] if words.arch else index.archs():
-        answer = ask(words.url, "by-state", [arch, state], words.wait)
+        answer = ask(words.url, "by-state", [arch, state], words.wait, words.keys.of(""))
         assert isinstance(answer, ByState)
         since = index.since_each(arch, state, {record.source: record.take for record in answer.records})
         yield from ((record, since[record.source]) for record in answer.records)

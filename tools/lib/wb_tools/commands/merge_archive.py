@@ -49,7 +49,7 @@ With --indep the builds of `all` are merged too. With --dose it asks dose-buildd
 the merge, which of the packages that it may make wait can be built; the report is given right after the merges. A
 builder that asks between the two may be handed a new package that cannot be built; with --stop nobody is. With
 --only-report nothing is merged: dose is asked about what waits now, by the lists in FOLDER/merged, and the serving
-office is given the reports; a line for each has how many records it changed.
+office is given the reports, by the key of KEY_FILE of its settings; a line for each has how many records it changed.
 
 A list is refused, before anything is done to the office, if
 
@@ -269,13 +269,14 @@ def make_reports(words: argparse.Namespace) -> None:
 def report_now(words: argparse.Namespace) -> None:
     """Makes the reports of what waits now, by the lists that were merged last, and gives them to the serving office."""
     try:
-        url = f"http://127.0.0.1:{read_settings(Path(words.settings or default_settings())).port}"
+        settings = read_settings(Path(words.settings or default_settings()))
     except Refusal as why:
         raise ProgramFailed(str(why), why.status) from None
+    url, key = f"http://127.0.0.1:{settings.port}", settings.key
     place = words.folder / "merged"
     for arch in lists_of(words):
-        report = make_report(words, arch, place / f"Sources-{arch}", place, waiting_now(url, arch))
-        changed = send_report(url, arch, report.read_text(encoding="utf-8"))
+        report = make_report(words, arch, place / f"Sources-{arch}", place, waiting_now(url, arch, key))
+        changed = send_report(url, arch, report.read_text(encoding="utf-8"), key)
         print(f"report-{arch} {changed}", flush=True)
 
 

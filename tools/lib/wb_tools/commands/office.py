@@ -34,6 +34,7 @@ examples:
   %(prog)s merge Sources-amd64 amd64=Packages-amd64 Sources-armhf armhf=Packages-armhf
   %(prog)s add-builder b1 amd64
   %(prog)s report amd64 report-0412
+  %(prog)s key add b1 build=b1 > b1.key
   %(prog)s run < lines
   %(prog)s restore --force /var/lib/wb/backups/2026-04-12T031500Z
 
@@ -45,6 +46,8 @@ settings, lines of KEY=VALUE as systemd's EnvironmentFile has them, a value with
   REQUESTS         connections until it starts anew     1000000
   JOURNAL          a file to which a line for each accepted command is appended
   LISTS            a folder from which the serving office merges lists, so that a merge stops nothing
+  KEYS             the file of keys, by which the serving office lets requests through; without it all are
+  KEY_FILE         the file with the key that this command shows to it, which nobody but its owner may open
   SERVICE          systemd or pidfile                   systemd
   UNIT             the unit, with systemd               wb.service
   PID_FILE, LOG    its process and messages, with pidfile
@@ -73,6 +76,13 @@ COMMANDS = {
     "add-builder": "let a builder build for an architecture, without a stop",
     "enter": "put a source package that has no record into the queue, without a stop",
     "report": "take in which source packages can be built now, without a stop",
+}
+
+KEY_COMMANDS = {
+    "add": "make a key with these rights, and print it, this once",
+    "change": "give a key other rights",
+    "remove": "take a key away, at once",
+    "list": "show the names and the rights of all keys",
 }
 
 
@@ -114,6 +124,22 @@ def add_merge(below: Any) -> None:
     )
 
 
+def add_key(below: Any) -> None:
+    """The command `key` and what is done with keys."""
+    key = below.add_parser("key", help="add, change, remove or list the keys by which the office lets requests through")
+    what = key.add_subparsers(dest="what", metavar="WHAT", required=True)
+    for name, about in KEY_COMMANDS.items():
+        one = what.add_parser(name, help=about, description=f"{about}.")
+        one.add_argument("--dry-run", action="store_true", default=argparse.SUPPRESS, help=argparse.SUPPRESS)
+        if name != "list":
+            one.add_argument("name", metavar="NAME", help="the name on the line of the key; * is who shows no key")
+        if name in ("add", "change"):
+            one.add_argument(
+                "rights", metavar="RIGHT", nargs="+",
+                help="read, build=BUILDER, port=ARCH or operate; each of the last three has read in it",
+            )
+
+
 def parser() -> argparse.ArgumentParser:
     whole = argparse.ArgumentParser(
         prog=Path(sys.argv[0]).name, description=(__doc__ or "").split("\n\n")[0], epilog=EPILOG,
@@ -149,6 +175,7 @@ def parser() -> argparse.ArgumentParser:
         command = below.add_parser(name, help=about)
         for word in OFFICE_COMMANDS[name].split():
             command.add_argument(word, metavar=word.upper())
+    add_key(below)
     below.add_parser("run", help="give the office the lines of standard input, without a stop if each has a request")
     below.add_parser("ready", help="end with 0 if there is an office that may be served; what the unit asks first")
     below.add_parser("keep", help="serve in the foreground, again and again, for those without systemd")
@@ -163,6 +190,9 @@ def act(office: Office, settings: Settings, words: argparse.Namespace) -> int:
             return office.show()
         case "ready":
             office.require_ready()
+            office.require_keys()
+        case "key":
+            keys(office, words)
         case "keep":
             return office.keep()
         case "create":
@@ -188,10 +218,24 @@ def act(office: Office, settings: Settings, words: argparse.Namespace) -> int:
     return office.status
 
 
+def keys(office: Office, words: argparse.Namespace) -> None:
+    desk = office.desk()
+    match words.what:
+        case "add":
+            desk.add(words.name, words.rights)
+        case "change":
+            desk.change(words.name, words.rights)
+        case "remove":
+            desk.remove(words.name)
+        case "list":
+            desk.show()
+
+
 @contextlib.contextmanager
 def alone(settings: Settings, command: str) -> Iterator[None]:
-    """Refuses if another call of this command changes the office; those that only look do not count."""
-    if command in ("status", "ready", "keep"):
+    """Refuses if another call of this command changes the office; those that only look do not count, and keys have a
+    lock of their own."""
+    if command in ("status", "ready", "keep", "key"):
         yield
         return
     with open(settings.file, "rb") as handle:

@@ -79,6 +79,8 @@ what buildd, buildd-mail, buildd-uploader and the hook say, and no word of porte
 
 settings, lines of KEY=VALUE with a value with a blank in quotes, in {FILE} or FILE:
   SUITES   the port of 127.0.0.1 on which the office of each suite serves, as "sid=8080 experimental=8081" (required)
+  KEY_FILE the file with the key that is shown to the offices, which nobody but its owner
+           may open, or of each its own, as "sid=~/sid.key experimental=~/exp.key"    ~/wanna-build.key, if it is there
   ARCH     the architecture, if --arch is not given; without both that of an office which has one
   ALL      the office's architecture for builds of `all`, which buildd names `all`    indep
   STATE    the file of what is held and owed, of its caller alone; its folder is made ~/wanna-build.state
@@ -97,9 +99,9 @@ examples:
   wanna-build -A amd64 -d sid --simulate --give-back hello_1.0-1
   echo 'libfoo-dev (>= 2)' | wanna-build -A amd64 -d sid --dep-wait hello_1.0-1
 
-exit statuses: 0 done; 1 the office refused it, or has not such a suite; 2 the words or the settings are wrong; 3 the
-office does not answer, or a file cannot be written: a report of a builder is kept then, if it can be, and all else is
-not done, or it is not known. Standard error says which.
+exit statuses: 0 done; 1 the office refused it, also for want of a key, or has not such a suite; 2 the words or the
+settings are wrong; 3 the office does not answer, or refuses a report for want of a key, or a file cannot be written: a
+report of a builder is kept then, if it can be, and all else is not done, or it is not known. Standard error says which.
 """
 TAKE_FOR = 30  # seconds at most that a take is tried: buildd hears no signal meanwhile
 REPORTS = ("built", "attempted", "uploaded")  # what a builder alone says

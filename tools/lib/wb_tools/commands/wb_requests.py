@@ -18,11 +18,12 @@ from pathlib import Path
 from wb_tools import outlive_readers
 from wb_tools.answers import DONE, FAILED, REFUSED, START, WORDS, printable, seconds_word, suite_url
 from wb_tools.columns import NAME, REASON, WHOLE, Column, lines_of
+from wb_tools.keys import add_key_option
 from wb_tools.lists import arch_word, parser_of, say
 from wb_tools.requests.commands import Order
 from wb_tools.requests.lines import Archs, Malformed, Request, read_requests
 from wb_tools.requests.sending import ABSENT, ACCEPTED, NO_ANSWER, NOT_SENT, REFUSED as ORDER_REFUSED, Desk, Row
-from wb_tools.wanna_build.office import NoAnswer, NotKnown, Office, Refusal
+from wb_tools.wanna_build.office import NoAnswer, NotAdmitted, NotKnown, Office, Refusal
 
 PROGRAM = "wb-requests"
 ANSWER = 40  # seconds: more than an office takes at most for one connection
@@ -163,8 +164,11 @@ def read_words() -> argparse.Namespace:
         "--wait", metavar="SECONDS", type=seconds_word, default=START,
         help="how long to ask an office again that does not answer, as while it starts, else %(default)s",
     )
+    add_key_option(parser)
     words = parser.parse_args()
     words.offices = dict(words.url)
+    for suite, office in words.url:
+        office.key = words.keys.of(suite)
     if len(words.offices) < len(words.url) or ("" in words.offices and len(words.url) > 1):
         parser.error("of several --url each has to have its suite, as in --url sid=http://127.0.0.1:8080")
     if len(words.url) == 1:
@@ -199,7 +203,9 @@ def archs_of(words: argparse.Namespace) -> Archs:
                 said = desk.offices[suite].archs()
             except NotKnown as why:
                 return why
-            return () if isinstance(said, Refusal) else tuple(one["arch"] for one in said)
+            if isinstance(said, Refusal):
+                raise NotAdmitted(str(said))
+            return tuple(one["arch"] for one in said)
 
         found: tuple[str, ...] | NotKnown = desk.in_time(once)
         return found

@@ -19,6 +19,7 @@ from wb_tools.answers import (
 from wb_tools.index.asking import Index
 from wb_tools.index.reading import read_whole
 from wb_tools.journal import Cut, Entry, read_journal
+from wb_tools.keys import KeyFile, Keys, add_key_option
 from wb_tools.lists import Refused, arch_word, parser_of, put_in_place, say
 from wb_tools.page import LISTED, Arch, page
 
@@ -51,27 +52,27 @@ on standard error. After all but 0 no page was put in place."""
 # ---- where answers come from
 
 
-def asked(url: str, words: argparse.Namespace) -> Iterator[Answer]:
+def asked(url: str, key: KeyFile, words: argparse.Namespace) -> Iterator[Answer]:
     """What a serving office answers; the packages in a state are asked for only if there are some. Of several offices
     one may lack an architecture."""
-    for arch in words.arch or known_archs(url, words.wait):
+    for arch in words.arch or known_archs(url, words.wait, key):
         try:
-            summary = ask(url, "summary", [arch], words.wait)
+            summary = ask(url, "summary", [arch], words.wait, key)
         except UnknownArch:
             if len(words.url) < 2:
                 raise
             continue
         yield summary
-        yield ask(url, "queue", [arch], words.wait)
+        yield ask(url, "queue", [arch], words.wait, key)
         for state in LISTED:
             if isinstance(summary, Summary) and summary.counts.get(state):
-                yield ask(url, "by-state", [arch, state], words.wait)
+                yield ask(url, "by-state", [arch, state], words.wait, key)
 
 
-def known_archs(url: str, wait: float) -> list[str]:
+def known_archs(url: str, wait: float, key: KeyFile) -> list[str]:
     """The architectures of an office, of which it has to have one."""
     try:
-        names = archs_of(url, wait)
+        names = archs_of(url, wait, key)
     except NoRoute as why:
         raise Refused(f"{why}; for this one name each architecture by --arch") from None
     if not names:
@@ -104,7 +105,7 @@ def all_gathered(words: argparse.Namespace) -> list[Arch]:
     for suite, name in words.journal:
         names.setdefault(suite, []).append(name)
     indexes = {suite: read_index(found) for suite, found in names.items()}
-    offices = [(suite, asked(url, words)) for suite, url in words.url] or [("", read(words))]
+    offices = [(suite, asked(url, words.keys.of(suite), words)) for suite, url in words.url] or [("", read(words))]
     archs = [arch for suite, answers in offices for arch in gathered(suite, answers, words)]
     without = [name for name in words.arch if name not in {arch.name for arch in archs}]
     if without or not archs:
@@ -162,6 +163,7 @@ def parser_of_words() -> argparse.ArgumentParser:
         help="ask the office that serves there, such as http://127.0.0.1:8080; of several each after its suite",
     )
     add_wait_option(parser)
+    add_key_option(parser)
     parser.add_argument(
         "--arch", metavar="ARCH", type=arch_word, action="append", default=[],
         help="an architecture; may be given several times; with --url, if none is given, all that the office has",
@@ -201,6 +203,7 @@ def with_suites(words: argparse.Namespace) -> str:
     suites = [suite for suite, _ in words.url]
     if len(suites) < 2:
         words.url = [("", url) for _, url in words.url]
+        words.keys = Keys({"": words.keys.of(suites[0])}) if suites else words.keys
         words.journal = [("", name.removeprefix(f"{suites[0]}=") if any(suites) else name) for name in words.journal]
         return ""
     if "" in suites or len(set(suites)) < len(suites):

@@ -214,13 +214,13 @@ class Answers:
 
     def asked(self) -> Iterator[Answer | Refused | None]:
         query, *words = self.words.words
-        url, wait = self.words.url, self.words.wait
+        url, wait, key = self.words.url, self.words.wait, self.words.keys.of("")
         try:
             if query in OF_EACH and not words:
-                words = OF_EACH[query](url, wait)
+                words = OF_EACH[query](url, wait, key)
             for one in [[word] for word in words] if query in OF_EACH else [words]:
                 try:
-                    yield ask(url, query, one, wait)
+                    yield ask(url, query, one, wait, key)
                 except Refused as why:
                     yield why
         except Refused as why:

@@ -26,10 +26,11 @@ It needs Flask and waitress, in Debian python3-flask and python3-waitress.
 The settings are lines KEY=VALUE, with one pair of quotes around a value that has a blank. SUITES has the port of
 127.0.0.1 on which the office of each suite serves, INDEXES the index of the journal of each. ARCHS and BUILDERS choose
 the architectures and the builders of each that are shown; without them the office is asked for all that it has. PORT is
-the one on which the site listens (8090), TITLE stands above its pages, WAIT is how many seconds offices have to answer
-what a page asks (10), SILENT after how many hours without a word a builder is called silent (24). LOG, TRACKER, BUGS
-and BINARY are addresses to which the pages lead, with {source}, {version}, {build}, {arch} and {builder} of a build in
-LOG, {source} in TRACKER and BUGS, and {package} in BINARY, for what a package waits for."""
+the one on which the site listens (8090), KEY_FILE is the file with the key that is shown to the offices, if nobody may
+read without one, or words SUITE=FILE for each, TITLE stands above its pages, WAIT is how many seconds offices have to
+answer what a page asks (10), SILENT after how many hours without a word a builder is called silent (24). LOG, TRACKER,
+BUGS and BINARY are addresses to which the pages lead, with {source}, {version}, {build}, {arch} and {builder} of a
+build in LOG, {source} in TRACKER and BUGS, and {package} in BINARY, for what a package waits for."""
 EXAMPLE = """  tools/bin/wb-web --settings web.conf
   tools/bin/wb-web --settings web.conf --port 8091"""
 STATUSES = """Status: 0 if it was ended by a signal; 2 if the words of the command line or the settings are wrong; 3 if

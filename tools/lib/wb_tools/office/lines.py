@@ -69,6 +69,12 @@ class Line:
     why: str = ""
 
     @property
+    def subject(self) -> dict[str, Any]:
+        """What the body says of a command that is no merge."""
+        found: dict[str, Any] = json.loads(self.body) if self.body else {}
+        return found
+
+    @property
     def is_known(self) -> bool:
         """Whether it can be answered while the office is served."""
         return bool(self.path or self.fault)

@@ -9,6 +9,7 @@ from dataclasses import dataclass
 from pathlib import Path
 from typing import Any
 
+from wb_tools.keys import NOT_ADMITTED, BadKey, KeyFile, right_for
 from wb_tools.lists import Refused, paragraphs
 from wb_tools.office.files import word_for
 from wb_tools.office.settings import WRONG_WORDS, Refusal
@@ -88,17 +89,25 @@ def look_at_lists(merges: Sequence[Merge]) -> None:
             raise Refusal(f"{why}; nothing was done") from None
 
 
-def ask_served(port: int, path: str) -> dict[str, Any]:
-    """What a serving office answers; nothing if it gives no answer."""
+def ask_served(port: int, path: str, key: KeyFile) -> dict[str, Any]:
+    """What a serving office answers to who shows this key; nothing if it gives no answer. It is refused if the key
+    cannot be shown, or is not let through."""
+    try:
+        shown = key.fields()
+    except BadKey as error:
+        raise Refusal(f"{error.filename}: {error.strerror}; nothing was done") from None
     connection = http.client.HTTPConnection("127.0.0.1", port, timeout=LOOK)
     try:
-        connection.request("GET", path)
+        connection.request("GET", path, headers=shown)
         answer = json.loads(connection.getresponse().read())
-        return answer if isinstance(answer, dict) else {}
     except (OSError, http.client.HTTPException, ValueError):
         return {}
     finally:
         connection.close()
+    if isinstance(answer, dict) and answer.get("http") in NOT_ADMITTED:
+        missing = key.missing(answer["http"], right_for(path))
+        raise Refusal(f"the office answered {answer['http']}: {missing}; nothing was done")
+    return answer if isinstance(answer, dict) else {}
 
 
 def parts_of(answered: str) -> list[dict[str, Any]]:

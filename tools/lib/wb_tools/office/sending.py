@@ -12,8 +12,9 @@ from typing import Any, cast
 
 from wb_tools.office.folder import named_in
 from wb_tools.office.lines import Fault, Line
+from wb_tools.keys import NOT_ADMITTED, KeyFile, right_for
 from wb_tools.office.settings import NOT_RUNNING, Refusal, tell
-from wb_tools.wanna_build.office import NoAnswer, NotSent, Office
+from wb_tools.wanna_build.office import NoAnswer, NotAdmitted, NotSent, Office
 
 PAUSE = 0.3  # seconds between two tries
 ANSWER = 120  # seconds: more than an office takes for the merge of another client and for one connection
@@ -34,12 +35,13 @@ def write_answers(said: bytes) -> None:
 @dataclass
 class Sender:
     """What sends lines one by one. An office that takes no connection is asked again for so many seconds, as long as
-    its service runs. Lists of merges are put into its folder."""
+    its service runs. Lists of merges are put into its folder, and the key is shown to it."""
 
     port: int
     runs: Callable[[], bool]
     wait: float
     lists: Path | None
+    key: KeyFile
     answered: list[str] = field(default_factory=list)
 
     def send(self, lines: Iterable[Line]) -> int:
@@ -82,11 +84,13 @@ class Sender:
 
     def asked(self, line: Line, seconds: float, body: bytes | None) -> bytes:
         """What the office answers to a line. What it did not get, and a query, are sent again."""
-        office = Office(self.port, seconds)
+        office = Office(self.port, seconds, self.key)
         end = time.monotonic() + self.wait
         while True:
             try:
                 return office.answer("GET" if body is None else "POST", line.path, body)
+            except NotAdmitted as fault:
+                raise Refusal(f"{fault}; {line} was not carried out, and nothing after it was sent") from None
             except NoAnswer as fault:
                 if body is not None and not isinstance(fault, NotSent):
                     raise Refusal(
@@ -109,6 +113,12 @@ class Sender:
             raise Refusal(
                 f"what answers on port {self.port} is no office: {line} is in doubt; nothing after it was sent",
                 NOT_RUNNING,
+            )
+        if said.get("http") in NOT_ADMITTED:
+            missing = self.key.missing(said["http"], right_for(line.path, line.subject))
+            raise Refusal(
+                f"the office answered {said['http']}: {missing}. {line} was not carried out, and nothing after it was "
+                "sent"
             )
         if "http" in said:
             why = " (does it serve with another folder than LISTS?)" if said["http"] == "NoList" else ""

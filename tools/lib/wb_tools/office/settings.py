@@ -13,6 +13,8 @@ from dataclasses import dataclass
 from pathlib import Path
 from typing import Any
 
+from wb_tools.keys import KeyFile
+
 DONE, FAILED, WRONG_WORDS, NOT_RUNNING = 0, 1, 2, 3
 
 
@@ -40,6 +42,8 @@ class Settings:
     requests: int = 1000000
     journal: Path | None = None
     lists: Path | None = None  # the folder of lists that the serving office may merge
+    keys: Path | None = None  # the file of the keys, by which the office lets requests through
+    key_file: Path | None = None  # the file with the key that is shown to it
     service: str = "systemd"
     unit: str = "wb.service"
     pid_file: Path | None = None
@@ -62,8 +66,17 @@ class Settings:
         """The words of the program that have it merge by requests, if there is a folder for that."""
         return ["--lists", str(self.lists)] if self.lists else []
 
+    def keys_words(self) -> list[str]:
+        """The words of the program that have it let requests through by keys, if there are some."""
+        return ["--keys", str(self.keys)] if self.keys else []
 
-PATHS = {"STORE", "BACKUPS", "PROGRAM", "JOURNAL", "LISTS", "PID_FILE", "LOG", "SNAPSHOT_FOLDER"}
+    @property
+    def key(self) -> KeyFile:
+        """What is shown to the serving office: nothing, if an upgrade gave the settings a key that was not made yet."""
+        return KeyFile(self.key_file, f"KEY_FILE of {self.file}", may_be_missing=True)
+
+
+PATHS = {"STORE", "BACKUPS", "PROGRAM", "JOURNAL", "LISTS", "KEYS", "KEY_FILE", "PID_FILE", "LOG", "SNAPSHOT_FOLDER"}
 NUMBERS = {"PORT": 65535, "REQUESTS": 1000000, "WAIT": 86400, "KEEP_BACKUPS": 1000000, "KEEP_DAYS": 36500}
 COMMANDS = {"SNAPSHOT_MAKE", "SNAPSHOT_DROP"}
 TEXTS = {"SERVICE", "UNIT", "OWNER", "MERGE", "PAGE"}

@@ -20,6 +20,7 @@ from wb_tools.office.files import (
     DATABASE, LOG, MAGIC, Files, beside, copy_file, is_locked, links_to_lists, read_sums,
     removed_after, removed_on_failure, sync_folder, word_for, write_sums,
 )
+from wb_tools.office.keys import Desk, first_keys, key_in, read_keys, write_private
 from wb_tools.office.lines import Line, line_of, read_lines
 from wb_tools.office.merges import (
     Merge, archs_of, ask_served, lines_of, look_at_lists, parts_of, report_parts,
@@ -74,8 +75,14 @@ class Office:
                 f"there is no office in {self.settings.store}: see STORE of {self.settings.file}, or office create"
             )
 
+    def require_keys(self) -> None:
+        """Refuses to start with keys that the program would not read."""
+        if self.settings.keys:
+            read_keys(self.settings.keys)
+
     def start(self) -> None:
         self.require_ready()
+        self.require_keys()
         if self.service.runs():
             raise Refusal(f"the service runs already: {self.service.describe()}")
         self.require_unlocked()
@@ -147,7 +154,7 @@ class Office:
         signal.signal(signal.SIGINT, end)
         words = [
             "serve", "--port", str(self.settings.port), "--requests", str(self.settings.requests),
-            *self.settings.journal_words(), *self.settings.lists_words(),
+            *self.settings.journal_words(), *self.settings.lists_words(), *self.settings.keys_words(),
         ]
         failures = 0
         while True:
@@ -471,7 +478,7 @@ class Office:
         """Whether the office answers, and knows the request of a command; one that begins to serve has some seconds."""
         end = time.monotonic() + min(self.settings.wait, STARTING)
         while True:
-            said = ask_served(self.settings.port, path)
+            said = ask_served(self.settings.port, path, self.settings.key)
             if said or time.monotonic() > end:
                 return said.get("http") == "WrongMethod"
             time.sleep(ASK_AGAIN)
@@ -490,7 +497,8 @@ class Office:
         """Sends the serving office lines, shows its answers, and answers them."""
         if not self.step(f"send {len(lines)} lines to the office that serves on port {self.settings.port}"):
             return ""
-        sender = Sender(self.settings.port, self.service.runs, self.settings.wait, self.settings.lists)
+        told = self.settings
+        sender = Sender(told.port, self.service.runs, told.wait, told.lists, told.key)
         status = sender.send(lines)
         if status != 0:
             raise Refusal(f"the lines ended with {status}: {MEANING[status]}")
@@ -533,7 +541,7 @@ class Office:
         it gives no answer, the merge says so later."""
         for arch in archs:
             if self.service.runs():
-                answer = ask_served(self.settings.port, f"/v1/summary/{arch}")
+                answer = ask_served(self.settings.port, f"/v1/summary/{arch}", self.settings.key)
             elif self.dry:
                 return
             else:
@@ -563,15 +571,39 @@ class Office:
                     "carried out"
                 )
 
+    def desk(self) -> Desk:
+        """What changes the keys of the office."""
+        if self.settings.keys is None:
+            raise Refusal(f"{self.settings.file} has no KEYS, so the office lets all requests through", WRONG_WORDS)
+        return Desk(Path(os.path.realpath(self.settings.keys)), self.step)
+
     def create(self) -> None:
-        """Makes an empty office where none is, and the folders of its files."""
+        """Makes an empty office where none is, the folders of its files, and the key of its operator."""
         if self.marker.exists() or any(self.files.sizes()):
             raise Refusal(f"{self.files.database} or its log is there already")
-        for folder in (self.files.database.parent, self.settings.backups, self.settings.lists):
+        keys, key_file = self.settings.keys, self.settings.key_file
+        if keys and not key_file and not keys.exists():
+            raise Refusal(f"{self.settings.file} has KEYS and no KEY_FILE, for the key of the operator", WRONG_WORDS)
+        folders = [self.files.database.parent, self.settings.backups, self.settings.lists]
+        for folder in [*folders, *(file.parent for file in (keys, key_file) if file)]:
             if folder and not folder.exists() and self.step(f"make the folder {folder}"):
                 folder.mkdir(mode=0o750, parents=True)
+        self.create_keys(keys, key_file)
         if self.step(f"make an empty office in {self.settings.store}"):
             self.give(b"")
+
+    def create_keys(self, keys: Path | None, key_file: Path | None) -> None:
+        """Makes the key of the operator, and the file of keys, if there is none, with its line and that of everybody
+        else."""
+        if keys is None:
+            tell(f"{self.settings.file} has no KEYS: every program of this machine may send the office any request")
+        elif keys.exists():
+            tell(f"the keys in {keys} stay as they are")
+        elif key_file and self.step(
+            f"make the key of the operator, which may do everything, in {key_file}, and the keys of the office in "
+            f"{keys}: who shows no key may read, and do nothing else"
+        ):
+            write_private(Path(os.path.realpath(keys)), first_keys(key_in(key_file)))
 
     # -- status
 
@@ -586,6 +618,7 @@ class Office:
         database, log = self.files.sizes()
         print(f"records: {self.files.database}, {database} bytes, and {log} in its log")
         print(f"room: {shutil.disk_usage(self.files.database.parent).free} bytes free beside them")
+        print(f"keys: {self.settings.keys or 'none, so every program of this machine may send any request'}")
         print(f"backup: {self.last_backup()}")
         if self.marker.exists():
             print(f"broken off: a restore, as {self.marker} says")

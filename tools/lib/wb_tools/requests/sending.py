@@ -11,7 +11,7 @@ from wb_tools.requests.commands import (
     Order, after, change, is_carried_out, is_of, next_number, refusal_before, refusal_of,
 )
 from wb_tools.requests.lines import Package, Request
-from wb_tools.wanna_build.office import NoAnswer, Office, Record, Refusal, held_by
+from wb_tools.wanna_build.office import NoAnswer, NotAdmitted, Office, Record, Refusal, held_by
 
 # What came of an order. ABSENT: ANY or ALL stands for an architecture that does not have the package.
 ACCEPTED, REFUSED, ABSENT, NO_ANSWER, NOT_SENT = "accepted", "refused", "not there", "no answer", "not sent"
@@ -114,6 +114,8 @@ class Desk:
         while True:
             try:
                 return once()
+            except NotAdmitted:
+                raise
             except NoAnswer as fault:
                 if time.monotonic() >= end:
                     raise

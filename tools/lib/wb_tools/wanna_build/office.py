@@ -9,6 +9,8 @@ from collections.abc import Mapping
 from dataclasses import dataclass
 from typing import Any
 
+from wb_tools.keys import NONE, NOT_ADMITTED, BadKey, KeyFile, right_for
+
 # Refusals after which the command may stand, or is to be sent again: the office has no memory or no store, or has to be
 # opened again.
 TRANSIENT = {"Memory", "Closed", "Store"}
@@ -35,6 +37,11 @@ class NotSent(NoAnswer):
     """No connection was made: the office did not get the request."""
 
 
+class NotAdmitted(NotSent):
+    """The key cannot be shown, or the office does not let it through: nothing was carried out, and it is in vain to ask
+    again before that is mended."""
+
+
 @dataclass(frozen=True)
 class Refusal:
     """What an office refused, in its own word."""
@@ -43,15 +50,21 @@ class Refusal:
     more: Record
 
     def __str__(self) -> str:
+        if self.is_for_want_of_a_key:
+            return f"the office answered {self.name}: {self.more['missing']}"
         said = [f"{key} {value}" for key, value in self.more.items() if key not in ("code", "refused")]
         return f"the office answered {self.name}" + (f" ({', '.join(said)})" if said else "")
 
+    @property
+    def is_for_want_of_a_key(self) -> bool:
+        return self.name in NOT_ADMITTED
+
 
 class Office:
-    """A serving office, on a port of this machine."""
+    """A serving office, on a port of this machine, and the key that is shown to it."""
 
-    def __init__(self, port: int, seconds: float) -> None:
-        self.port, self.seconds = port, seconds
+    def __init__(self, port: int, seconds: float, key: KeyFile = NONE) -> None:
+        self.port, self.seconds, self.key = port, seconds, key
 
     def ask(self, method: str, path: str, body: Record | None = None) -> Record | Refusal:
         """What is answered to a request, if it is answered whole."""
@@ -62,12 +75,18 @@ class Office:
             said = None
         if not isinstance(said, dict):
             raise NoAnswer(f"what answers on port {self.port} of 127.0.0.1 is no office")
+        if said.get("http") in NOT_ADMITTED:
+            return Refusal(said["http"], {"missing": self.key.missing(said["http"], right_for(path, body))})
         return self.judged(said, f"{method} {path}")
 
     def answer(self, method: str, path: str, text: bytes | None = None) -> bytes:
         """The bytes that are answered to a request with this body, if they are answered whole."""
         length = f"Content-Length: {len(text)}\r\n" if text is not None else ""
-        head = f"{method} {path} HTTP/1.1\r\nHost: 127.0.0.1\r\n{length}Connection: close\r\n\r\n"
+        try:
+            shown = self.key.lines()
+        except BadKey as error:
+            raise NotAdmitted(f"{error.filename}: {error.strerror}") from None
+        head = f"{method} {path} HTTP/1.1\r\nHost: 127.0.0.1\r\n{shown}{length}Connection: close\r\n\r\n"
         try:
             answer = self.exchange(head.encode() + (text or b""))
         except OSError as error:

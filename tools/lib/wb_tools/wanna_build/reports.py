@@ -13,7 +13,7 @@ from collections.abc import Callable, Mapping, Sequence
 from typing import TypeVar
 
 from wb_tools.wanna_build.office import (
-    NOT_SET_UP, NoAnswer, Office, Record, Refusal, another_version, held_by, is_of,
+    NOT_SET_UP, NoAnswer, NotAdmitted, Office, Record, Refusal, another_version, held_by, is_of,
 )
 from wb_tools.wanna_build.settings import WRONG_WORDS, Fault, Settings
 from wb_tools.wanna_build.state import ATTEMPTED, BUILDING, BUILT, ENDED, Debt, Kept, StateFile, Take
@@ -28,17 +28,24 @@ FIRST_PAUSE, LONGEST_PAUSE = 0.2, 5.0  # seconds between two tries
 Said = TypeVar("Said")
 
 
+class MayNot(Exception):
+    """The key of the builder does not let it say what a report asks for by name: it is refused, since it would wait for
+    ever."""
+
+
 def reason_of(builder: str) -> str:
     """The reason of a failed build, of which buildd gives none: by it is known who was the last to try."""
     return f"the build failed on {builder}"
 
 
 def tried(seconds: float, once: Callable[[], Said]) -> Said:
-    """What a step answers that is tried again until it has an answer, or for so long."""
+    """What a step answers that is tried again until it has an answer, or for so long; not if it lacks a key."""
     end, pause = time.monotonic() + seconds, FIRST_PAUSE
     while True:
         try:
             return once()
+        except NotAdmitted:
+            raise
         except NoAnswer as why:
             if time.monotonic() + pause > end:
                 raise
@@ -62,7 +69,7 @@ class Reports:
         port = self.settings.port_of(suite)
         if port is None:
             raise NoAnswer(f"the settings do not have the suite {suite} any more")
-        return Office(port, self.settings.answer)
+        return Office(port, self.settings.answer, self.settings.keys.of(suite))
 
     def save(self) -> str:
         """Writes what is kept, and says why it could not be written."""
@@ -83,7 +90,10 @@ class Reports:
         NoAnswer if one is still owed."""
         said = ""
         for debt in self.owed(suite):
-            said = self.deliver(debt)
+            try:
+                said = self.deliver(debt)
+            except MayNot as why:
+                said = str(why)
             if said:
                 self.settings.note(f"refused: {debt}: {said}")
             self.kept.owed.remove(debt)
@@ -134,11 +144,19 @@ class Reports:
 
     def known(self, debt: Debt, said: Record | Refusal | list[Record]) -> Record | Refusal | list[Record]:
         """An answer, unless it shows that the office was not set up: a report on what was taken waits until it is. Any
-        other is refused then, since it would wait for ever."""
+        other is refused then, since it would wait for ever. Each report waits for a key that is missing."""
+        if isinstance(said, Refusal):
+            self.need_a_key(said)
         is_of_take = debt.take is not None or self.kept.find(debt.suite, debt.arch, debt.builder, debt.source)
         if isinstance(said, Refusal) and said.name in NOT_SET_UP and is_of_take:
             raise NoAnswer(str(said))
         return said
+
+    @staticmethod
+    def need_a_key(refusal: Refusal | None) -> None:
+        """Lets a report wait for the key, or for its right, without which the office does not let it through."""
+        if refusal and refusal.is_for_want_of_a_key:
+            raise NotAdmitted(str(refusal))
 
     def deliver(self, debt: Debt) -> str:
         """Sends a report until the office has answered. Says why it was refused, if it was."""
@@ -162,6 +180,7 @@ class Reports:
                 # malformed relations are refused before the state is; the package is to be taken anew, which is written
                 # down before it is sent
                 refusal = office.post("waits", take=debt.take, relations=debt.text)
+                self.need_a_key(refusal)
                 if refusal and refusal.name == "BadRelations":
                     return str(refusal)
                 debt.take = None
@@ -175,6 +194,7 @@ class Reports:
         refusal = office.post(COMMANDS[debt.word], take=debt.take, **self.more(debt))
         if refusal is None:
             return self.finished(debt)
+        self.need_a_key(refusal)
         if refusal.name == "NotHeld":
             return self.ended(office, debt, str(refusal))
         if debt.retaken:  # nobody builds it
@@ -201,15 +221,19 @@ class Reports:
         return found[0]
 
     def give_back(self, office: Office, debt: Debt, record: Record) -> None:
-        """Gives back by name what is built already, or failed, which no report can do."""
+        """Gives back by name what is built already, or failed, which no report can do; a key of a builder alone may
+        not."""
         debt.sent = True
         self.save()
-        self.meant(office.post("give-back", arch=debt.arch, source=debt.source, version=record["version"]))
+        refusal = office.post("give-back", arch=debt.arch, source=debt.source, version=record["version"])
+        if refusal and refusal.name == "NotAllowed":
+            raise MayNot(str(refusal))
+        self.meant(refusal)
 
-    @staticmethod
-    def meant(refusal: Refusal | None) -> None:
+    def meant(self, refusal: Refusal | None) -> None:
         """A step that was refused since the state changed meanwhile is looked at anew; any other refusal waits for a
         remedy."""
+        self.need_a_key(refusal)
         if refusal and refusal.name != "WrongState":
             raise NoAnswer(str(refusal))
 

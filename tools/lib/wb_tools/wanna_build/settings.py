@@ -11,6 +11,7 @@ from dataclasses import dataclass, field
 from pathlib import Path
 from typing import IO
 
+from wb_tools.keys import KeyFile, Keys, home, keys_of
 from wb_tools.office.settings import unquoted
 from wb_tools.suites import port_of_suite, suites_in
 
@@ -32,11 +33,6 @@ class Fault(Exception):
     def __init__(self, reason: str, status: int = REFUSED) -> None:
         super().__init__(reason)
         self.status = status
-
-
-def home() -> Path:
-    """The folder of the user who calls; buildd empties the environment, HOME too."""
-    return Path(pwd.getpwuid(os.geteuid()).pw_dir)
 
 
 def caller() -> str:
@@ -76,6 +72,7 @@ class Settings:
     try_for: int = 300
     answer: int = 40  # more than an office takes at most for one connection
     retake: bool = True
+    keys: Keys = field(default_factory=Keys)  # what is shown to the office of each suite
     folder: Path = FILE.parent  # where the settings of the offices of other suites may lie
 
     def port_of(self, suite: str) -> int | None:
@@ -107,6 +104,8 @@ def checked_value(key: str, text: str) -> None:
     if key in NUMBERS:
         if not re.fullmatch("[0-9]{1,9}", text) or not 1 <= int(text) <= NUMBERS[key]:
             raise ValueError(f"has to be a number from 1 to {NUMBERS[key]}")
+    elif key == "KEY_FILE":
+        keys_of(text, key)
     elif key in PATHS:
         if not text.startswith(("/", "~/")):
             raise ValueError("has to be a path that begins with / or ~/")
@@ -167,4 +166,11 @@ def settings_of(file: Path, found: dict[str, str]) -> Settings:
         try_for=int(found.get("TRY", "300")),
         answer=int(found.get("ANSWER", "40")),
         retake=found.get("RETAKE", "yes") == "yes",
+        keys=keys_in(file, found.get("KEY_FILE", "")),
     )
+
+
+def keys_in(file: Path, text: str) -> Keys:
+    """The files of the keys that are shown: those of KEY_FILE, or else one in the home of the caller if it is there."""
+    named_by = f"KEY_FILE of {file}"
+    return keys_of(text, named_by) if text else Keys({"": KeyFile(home() / "wanna-build.key", named_by, True)})

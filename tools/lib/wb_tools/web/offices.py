@@ -8,6 +8,7 @@ import urllib.parse
 from typing import Any
 
 from wb_tools.answers import STATES, WHOLE, Record, made, path_of
+from wb_tools.keys import NOT_ADMITTED, BadKey
 from wb_tools.lists import Refused
 from wb_tools.web.settings import Suite
 
@@ -33,13 +34,13 @@ def left_until(end: float) -> float:
     return left
 
 
-def body_until(url: str, path: str, end: float) -> bytes:
-    """The body of an answer, which has to be whole by a moment; a ValueError if it is none. An office answers one
-    request a connection (docs/HTTP.md), and a page may ask it hundreds: http.client takes three times as long for
-    each, and knows no end of all its parts."""
+def body_until(url: str, path: str, shown: str, end: float) -> bytes:
+    """The body of an answer to a request with these fields, which has to be whole by a moment; a ValueError if it is
+    none. An office answers one request a connection (docs/HTTP.md), and a page may ask it hundreds: http.client takes
+    three times as long for each, and knows no end of all its parts."""
     parts = urllib.parse.urlsplit(url)
     with socket.create_connection((parts.hostname, parts.port), left_until(end)) as link:
-        link.sendall(f"GET {path} HTTP/1.1\r\nHost: {parts.netloc}\r\nConnection: close\r\n\r\n".encode())
+        link.sendall(f"GET {path} HTTP/1.1\r\nHost: {parts.netloc}\r\n{shown}Connection: close\r\n\r\n".encode())
         head, body = b"", bytearray()
         while part := link.recv(PART):
             body += part
@@ -113,7 +114,9 @@ class Asker:
 
     def answered(self, suite: Suite, query: str, words: tuple[str, ...]) -> dict[str, Any] | None:
         try:
-            found = json.loads(body_until(suite.url, path_of(query, words), self.end))
+            found = json.loads(body_until(suite.url, path_of(query, words), suite.key.lines(), self.end))
+        except BadKey:
+            raise Fault(suite, STOPPED, "the site cannot show the office its key, that of KEY_FILE") from None
         except TimeoutError:
             raise Fault(suite, SLOW, f"the office does not answer within {self.wait:g} seconds") from None
         except OSError as why:
@@ -122,6 +125,9 @@ class Asker:
             raise Fault(suite, ODD, f"this is no answer of an office to {query}") from None
         if query in WHOLE and isinstance(found, dict) and found.get("http") == "NoRoute":
             return None
+        if isinstance(found, dict) and found.get("http") in NOT_ADMITTED:
+            why = f"the office answers {found['http']}: it wants a key with the right read, that of KEY_FILE"
+            raise Fault(suite, STOPPED, why)
         if not isinstance(found, dict) or "fault" in found or "http" in found:
             raise Fault(suite, ODD, f"the office answers {json.dumps(found)[:200]} to {query}")
         if found.get("refused") in ("Memory", "Store", "Closed"):

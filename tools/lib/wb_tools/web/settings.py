@@ -6,6 +6,7 @@ from dataclasses import dataclass
 from pathlib import Path
 from typing import Any
 
+from wb_tools.keys import NONE, KeyFile, Keys, keys_of
 from wb_tools.lists import Refused, is_arch_name
 from wb_tools.office.settings import unquoted
 from wb_tools.suites import NAME
@@ -13,14 +14,15 @@ from wb_tools.suites import NAME
 
 @dataclass(frozen=True)
 class Suite:
-    """An office: its suite, its address, the architectures and builders that are shown, all if none is named, and the
-    index of its journal, if there is one."""
+    """An office: its suite, its address, the architectures and builders that are shown, all if none is named, the index
+    of its journal, if there is one, and the key that is shown to it."""
 
     name: str
     url: str
     archs: tuple[str, ...] = ()
     builders: tuple[str, ...] = ()
     index: Path | None = None
+    key: KeyFile = NONE
 
 
 @dataclass(frozen=True)
@@ -101,6 +103,7 @@ READERS: dict[str, Callable[[str], Any]] = {
     "title": str, **{name: number_in(most) for name, most in NUMBERS.items()},
     **{name: link_with(names) for name, names in LINKS.items()},
     "suites": pairs_of, "archs": pairs_of, "builders": pairs_of, "indexes": pairs_of,
+    "key_file": lambda text: keys_of(text, "KEY_FILE"),
 }
 
 
@@ -117,11 +120,13 @@ def read_settings(file: Path) -> Settings:
     several = {key: found.pop(key, {}) for key in ("suites", "archs", "builders", "indexes")}
     if not several["suites"]:
         raise Refused(f"{file}: SUITES is missing, such as SUITES=\"sid=8080\"")
-    return Settings(tuple(suite_of(file, name, several) for name in several["suites"]), **found)
+    keys: Keys = found.pop("key_file", Keys())
+    several["key_file"] = {name: "" for name in keys.files if name}
+    return Settings(tuple(suite_of(file, name, several, keys.of(name)) for name in several["suites"]), **found)
 
 
-def suite_of(file: Path, name: str, several: dict[str, dict[str, str]]) -> Suite:
-    """A suite, of what the settings have for each."""
+def suite_of(file: Path, name: str, several: dict[str, dict[str, str]], key: KeyFile) -> Suite:
+    """A suite, of what the settings have for each, and the key of its office."""
     unknown = {one for pairs in several.values() for one in pairs} - set(several["suites"])
     if unknown:
         raise Refused(f"{file}: SUITES does not name {sorted(unknown)[0]}")
@@ -134,4 +139,4 @@ def suite_of(file: Path, name: str, several: dict[str, dict[str, str]]) -> Suite
         raise Refused(f"{file}: the port of {name} in SUITES {why}") from None
     builders = tuple(filter(None, several["builders"].get(name, "").split(",")))
     index = several["indexes"].get(name)
-    return Suite(name, f"http://127.0.0.1:{port}", archs, builders, Path(index) if index else None)
+    return Suite(name, f"http://127.0.0.1:{port}", archs, builders, Path(index) if index else None, key)
