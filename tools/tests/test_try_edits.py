@@ -131,7 +131,44 @@ def stands_alone_outside_functions(folder):
     expect(verdicts[edit.path][0] == "REFUSED", f"it is {verdicts[edit.path]}")
 
 
-TESTS = [takes_comments, refuses_what_the_prover_names, stands_alone_outside_functions]
+# The prover's names of functions: one of a type that another file declares has that file's module.
+NAMES = [
+    "office::total", "office::line::words::total", "office::line::words::totals", "office::line::words::longest",
+    "office::line::words::fn::longest::all", "office::line::words::fn::longest::all+FnMut::call_mut",
+    "office::text::Text::longest", "office::text::TextClone::clone",
+]
+CHANGED = {
+    "total": ["office::total"], "words_total": ["office::line::words::total"], "words_longest": NAMES[3:6],
+    "text_longest": ["office::text::Text::longest"],
+}
+
+
+def names_what_is_changed(folder):
+    """The functions that an edit changes have the names that the prover gives them, with closures in them."""
+    edits = made(folder)
+    for name, edit in edits.items():
+        found = edit.places[0].names_among(NAMES)
+        expect(found == CHANGED[name], f"{name} changes {found}")
+    (folder / "src/other.rt").write_text("impl Text {\n    fn shortest(n: u8) -> u8 {\n        n + 6\n    }\n}\n")
+    edit = read(folder, "file: src/other.rt\nold: n + 6\nnew: n + 9\n")
+    found = edit.places[0].names_among([*NAMES, "office::text::Text::shortest"])
+    expect(found == ["office::text::Text::shortest"], f"an edit of a type's function elsewhere changes {found}")
+
+
+def judges_what_is_changed(folder):
+    """A check of some functions alone is a verdict too."""
+    edits = made(folder)
+    ran = subprocess.CompletedProcess([], 1, f"fn office::total: {SEARCH}\nonly=2 proved=1\n")
+    kit = SimpleNamespace(rt=SimpleNamespace(unread=lambda line, texts: False))
+    both = [edits["total"], edits["words_total"]]
+    verdicts = [SCRIPT["judge_batch"](SCRIPT["Answer"](kit, {}, ran), both)[it.path][0] for it in both]
+    expect(verdicts == ["REFUSED", "PROVED"], f"they are {verdicts}")
+
+
+TESTS = [
+    takes_comments, refuses_what_the_prover_names, stands_alone_outside_functions, names_what_is_changed,
+    judges_what_is_changed,
+]
 
 if __name__ == "__main__":
     sys.exit(main(TESTS))
