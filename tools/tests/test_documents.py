@@ -340,7 +340,7 @@ def own_definitions():
     for path in ROOT.glob("crates/*/specs/*.antt"):
         for line in path.read_text(encoding="utf-8").splitlines():
             if re.match(r" *-- ", line):
-                said += line
+                said += " " + line.strip().removeprefix("-- ")
                 continue
             name = head.match(line)
             if name and re.search("this project.s own", said):
