@@ -33,6 +33,7 @@ PAGES = ("wb.1", "wanna-build.1", "wb-office.8", "wb-table.1", "wb-status.1", "w
 DATE = "1776000000"
 TABLES_PAGES = ("wb-table.1", "wb-status.1")
 SOURCES = "Package: {}\nVersion: {}\nArchitecture: any\nPriority: optional\nSection: misc\n\n"
+OPTION, STATED = r"^  (?:-h, )?(--[a-z-]+)", r"^\.BI? ?R? ?(--[a-z-]+)"  # of a help, and of a page
 
 
 # ---- the pages and the completion
@@ -143,8 +144,10 @@ def page_has_the_version_and_the_options(_folder):
     stated = re.search('VERSION: &str = "(wb [0-9.]+),', (ROOT / "crates/wb/src/main.rt").read_text(encoding="utf-8"))
     service = (ROOT / "crates/wb_words/src/service.rt").read_text(encoding="utf-8")
     start = (ROOT / "crates/wb_words/src/start.rt").read_text(encoding="utf-8")
-    options = re.findall(r'\.long\("([a-z-]+)"\)', service) + re.findall(r'^const OPTIONS.*\("([a-z-]+)"', start, re.M)
-    expect({"store", "port", "requests"} <= set(options), f"the options were not found: {options}")
+    options = re.findall(r'\.long\("([a-z-]+)"\)', service)
+    options += re.findall(r'\("([a-z-]+)", ArgumentKind::NamedWord\)', start)
+    wanted = {"store", "port", "requests", "journal", "lists", "keys"}
+    expect(wanted <= set(options), f"the options were not found: {options}")
     for name in PAGES:
         expect(
             stated and f'"{stated[1]}"' in page_text(name).splitlines()[0],
@@ -169,7 +172,7 @@ def page_of_wanna_build_has_each_word(_folder):
     for name in [*wanna_build_words.ACTIONS, *wanna_build_words.OPTIONS]:
         expect(f"--{name}" in text, f"docs/wanna-build.1 does not have --{name}")
     help_text, _ = call([BIN / "wanna-build", "--help"])
-    for key in re.findall("^#?([A-Z]+)=", (ROOT / "packaging/wanna-build.conf").read_text(), re.M):
+    for key in re.findall("^#?([A-Z_]+)=", (ROOT / "packaging/wanna-build.conf").read_text(), re.M):
         expect(f"\n  {key} " in help_text, f"help does not have the setting {key}")
 
 
@@ -189,9 +192,9 @@ def pages_of_the_tables_have_each_option(_folder):
     for page in TABLES_PAGES:
         name = page.partition(".")[0]
         said, _ = call([BIN / name, "--help"])
-        options = sorted(set(re.findall(r"^  (?:-h, )?(--[a-z]+)", said, re.M)))
+        options = sorted(set(re.findall(OPTION, said, re.M)))
         section = re.search(r"^\.SH OPTIONS$(.*?)^\.SH ", page_text(page), re.S | re.M)
-        stated = sorted(re.findall(r"^\.BI? ?R? ?(--[a-z]+)", section[1], re.M) if section else [])
+        stated = sorted(re.findall(STATED, section[1], re.M) if section else [])
         expect(len(options) > 3 and stated == options, f"docs/{page} has {stated}, and the script {options}")
         expect(completed(name, "-") == options, f"after {name}: {completed(name, '-')}")
 
@@ -210,15 +213,13 @@ def page_of_history_has_each_question(_folder):
     every = set()
     for question in questions:
         said, _ = call([BIN / "wb-history", "-", question, "--help"])
-        options = sorted(set(re.findall(r"^  (?:-h, )?(--[a-z]+)", said, re.M)))
+        options = sorted(set(re.findall(OPTION, said, re.M)))
         expect(
             completed("wb-history", "journal", question, "-") == options,
             f"after {question}: {completed('wb-history', 'journal', question, '-')}",
         )
         every |= set(options)
-    stated = re.findall(
-        r"^\.BI? ?R? ?(--[a-z]+)", text.partition(".SH OPTIONS")[2].partition(".SH EXIT STATUS")[0], re.M
-    )
+    stated = re.findall(STATED, text.partition(".SH OPTIONS")[2].partition(".SH EXIT STATUS")[0], re.M)
     expect(sorted(stated) == sorted(every), f"docs/wb-history.1 has {stated}, and the script {sorted(every)}")
 
 
@@ -259,7 +260,7 @@ def completion_has_each_subcommand(folder):
         "something is offered for other words",
     )
     expect(
-        completed("wb", "serve", "--") == ["--journal", "--lists", "--port", "--requests"],
+        completed("wb", "serve", "--") == ["--journal", "--keys", "--lists", "--port", "--requests"],
         f"after serve: {completed('wb', 'serve', '--')}",
     )
     tree = office_parser()
@@ -278,8 +279,11 @@ def completion_has_each_subcommand(folder):
         )
         expect(completed("wb", "merge", *words) == [f"{folder}/a list"], f"no list is offered after {words[:-1]}")
     expect(completed("wb", "report", "amd64", f"{folder}/a l") == [f"{folder}/a list"], "no report is offered")
+    key_file = ["--key-file", f"{folder}/a l"]
     for words in (
         ["wb-table", f"{folder}/a l"], ["wb-status", "--to", f"{folder}/a l"], ["wb-history", f"{folder}/a l"],
+        ["wb-table", *key_file], ["wb-status", *key_file], ["wb-history", "journal", "ages", *key_file],
+        ["wb-requests", *key_file], ["wb", "serve", "--keys", f"{folder}/a l"],
     ):
         expect(completed(*words) == [f"{folder}/a list"], f"no file is offered after {words[:-1]}")
     expect(
@@ -290,6 +294,17 @@ def completion_has_each_subcommand(folder):
         completed("wb-status", "--arch", "") == completed("wb-table", "--first", "") == [],
         "something is offered for an option's word",
     )
+
+
+def completion_of_keys(_folder):
+    """After wb-office key what is done with keys is offered, and after the name of a key its rights."""
+    for words, wanted in (
+        ([""], ["add", "change", "list", "remove"]), (["a"], ["add"]), (["add", ""], []), (["remove", ""], []),
+        (["add", "b1", ""], ["build=", "operate", "port=", "read"]), (["change", "b1", "read", "o"], ["operate"]),
+        (["remove", "b1", ""], []), (["list", ""], []),
+    ):
+        found = completed("wb-office", "--suite", "sid", "key", *words)
+        expect(found == wanted, f"after key {words}: {found}")
 
 
 def completion_has_states_of_wb_table(_folder):
@@ -317,9 +332,9 @@ def completion_of_wanna_build(folder):
 
 def completion_of_wb_requests(folder):
     said, _ = call([BIN / "wb-requests", "--help"])
-    options = sorted(set(re.findall(r"^  (?:-h, )?(--[a-z]+)", said, re.M)))
+    options = sorted(set(re.findall(OPTION, said, re.M)))
     found = completed("wb-requests", "-")
-    expect(len(options) == 7 and found == options, f"after wb-requests: {found}, and the script has {options}")
+    expect(len(options) == 8 and found == options, f"after wb-requests: {found}, and the script has {options}")
     (folder / "some lines").write_text("")
     expect(completed("wb-requests", f"{folder}/so") == [f"{folder}/some lines"], "no file of lines is offered")
     expect(completed("wb-requests", "--arch", "") == [], "something is offered for an architecture")
@@ -435,7 +450,7 @@ def pages_of_lists_are_those_of_their_help(folder):
         packed = folder / f"root/usr/share/man/man1/{name}.1.gz"
         text = gzip.decompress(packed.read_bytes()).decode().replace("\\-", "-")
         said, _ = call([BIN / name, "--help"])
-        options = set(re.findall(r"^  (?:-h, )?(--[a-z-]+)", said, re.M))
+        options = set(re.findall(OPTION, said, re.M))
         stated = set(re.findall(r"^\.B (?:-h, )?(--[a-z-]+)", text, re.M))
         expect(len(options) > 2 and options == stated, f"{name}: {sorted(options ^ stated)}")
         for part in ("SYNOPSIS", "DESCRIPTION", "EXIT STATUS", "EXAMPLES"):
@@ -541,11 +556,15 @@ def unit_can_be_verified(folder):
 def unit_reads_the_settings_of_the_office(folder):
     settings = office.read_settings(ROOT / "packaging/office.conf")
     unit = (ROOT / "packaging/wb.service").read_text()
-    for name in re.findall(r"\$\{([A-Z]+)\}", unit):
+    used = set(re.findall(r"\$\$\{?([A-Z]+)", unit))
+    expect(used == {"STORE", "PORT", "REQUESTS", "JOURNAL", "LISTS", "KEYS"}, f"the unit uses {used}")
+    for name in used:
         expect(hasattr(settings, name.lower()), f"the unit uses {name}, which is no setting")
     assumed = dict(word.split("=") for word in re.search("^Environment=(.*)$", unit, re.M)[1].split())
     bare = office.Settings(settings.file, settings.store, settings.backups)
-    for name in set(re.findall(r"\$\{([A-Z]+)\}", unit)) - {"STORE"}:  # which has to be in the settings
+    # STORE has to be in the settings, and without KEYS the shell leaves the option out
+    expect(bare.keys is None and '$${KEYS:+--keys "$$KEYS"}' in unit, "the unit names keys without KEYS")
+    for name in used - {"STORE", "KEYS"}:
         wanted = getattr(bare, name.lower()) or "/dev/null"
         expect(assumed[name] == str(wanted), f"without {name} the unit takes {assumed[name]}, not {wanted}")
     expect(unit.index("\nEnvironment=") < unit.index("\nEnvironmentFile="), "the settings do not count")
@@ -581,7 +600,7 @@ TESTS = [
     page_has_the_version_and_the_options,
     page_of_the_office_has_each_command, pages_of_the_tables_have_each_option, page_of_history_has_each_question,
     page_of_wanna_build_has_each_word, pages_are_formatted,
-    completion_has_each_subcommand, completion_has_states_of_wb_table, completion_of_wanna_build,
+    completion_has_each_subcommand, completion_of_keys, completion_has_states_of_wb_table, completion_of_wanna_build,
     completion_of_wb_requests,
     is_the_same_again, runs_the_five_lines, has_its_scripts,
     pages_of_lists_are_those_of_their_help, ends_what_a_file_names, has_all_pages,

@@ -535,7 +535,7 @@ def lists_its_settings(folder):
     """The help, the page of the manual and the settings of the package name the same settings."""
     said = subprocess.run([BIN / "wb-web", "--help"], capture_output=True, text=True, check=True).stdout
     page = (ROOT / "docs/wb-web.1").read_text(encoding="utf-8")
-    keys = set(re.findall("^#?([A-Z]+)=", (ROOT / "packaging/web.conf").read_text(encoding="utf-8"), re.M))
+    keys = set(re.findall("^#?([A-Z_]+)=", (ROOT / "packaging/web.conf").read_text(encoding="utf-8"), re.M))
     from wb_tools.web.settings import READERS
 
     expect(keys == {key.upper() for key in READERS}, f"packaging/web.conf has {keys}")

@@ -171,6 +171,9 @@ class Gate:
                 return
             threading.Thread(target=self.hand_on, args=(link,), daemon=True).start()
 
+    def refusal(self, method, path, head, body):
+        """What is answered in place of the office; none if the request is handed on."""
+
     def hand_on(self, link):
         with contextlib.closing(link), contextlib.suppress(OSError):
             request = b""
@@ -190,6 +193,10 @@ class Gate:
             self.asked.append((method, path, json.loads(body) if body else None))
             if lost and lost[1] == "request":
                 return
+            refused = self.refusal(method, path, head, body)
+            if refused:
+                link.sendall(refused)
+                return
             with socket.create_connection(("127.0.0.1", self.office.port), timeout=WAIT) as beyond:
                 beyond.sendall(head + b"\r\n\r\n" + body)
                 answer = b"".join(iter(lambda: beyond.recv(65536), b""))
@@ -202,10 +209,12 @@ class Gate:
 class Network:
     """An office, its gate, and the settings of the calls."""
 
+    gate_of = Gate
+
     def __init__(self, folder, listed=None, **settings):
         self.folder = folder
         self.office = Program(program(), folder / "office", free_port(), listed or LISTED)
-        self.gate = Gate(self.office)
+        self.gate = self.gate_of(self.office)
         self.state = folder / "a state"
         self.settings = {
             "SUITES": f"sid={self.gate.port}", "STATE": self.state, "LOG": folder / "log", "TRY": "1", "ANSWER": "5",
