@@ -165,9 +165,26 @@ def judges_what_is_changed(folder):
     expect(verdicts == ["REFUSED", "PROVED"], f"they are {verdicts}")
 
 
+def leaves_out_closures_that_are_gone(_folder):
+    """The functions that an edit leaves are checked, without a closure that it took away."""
+    asked = []
+
+    def checked(_crate, _texts, flags, _kept):
+        asked.append(flags[3::2])
+        gone = "rattle: error: `office` has no function `office::fn::total::all`: help: write the name"
+        is_gone = "office::fn::total::all" in flags
+        return subprocess.CompletedProcess([], 2 if is_gone else 0, gone if is_gone else "only=1 proved=1")
+
+    kit = SCRIPT["Kit"].__new__(SCRIPT["Kit"])
+    kit.rt = SimpleNamespace(checked=checked, unread=lambda line, texts: False)
+    answer = kit.check(None, {}, None, ["office::fn::total::all", "office::total"])
+    expect(answer.is_proved, f"it is {answer.last}")
+    expect(asked == [["office::fn::total::all", "office::total"], ["office::total"]], f"{asked} are asked for")
+
+
 TESTS = [
     takes_comments, refuses_what_the_prover_names, stands_alone_outside_functions, names_what_is_changed,
-    judges_what_is_changed,
+    judges_what_is_changed, leaves_out_closures_that_are_gone,
 ]
 
 if __name__ == "__main__":
