@@ -36,6 +36,7 @@ use Rattle.wb_office.specs.Failed.{HasFailed}
 use Rattle.wb_office.specs.Standing.{Knows, StandsAt, LeavesOne}
 use Rattle.wb_office.proofs.AnswerLemmas.{found, not_found, stays_others}
 use Rattle.wb_store.proofs.OthersLemmas.{others_equal}
+use Rattle.wb_store.proofs.FindsLemmas.{finds_weaker}
 use Rattle.wb_store.proofs.StaysLemmas.{was_clean}
 use Rattle.wb_office.proofs.ApplyLemmas.{either_of, none_opens, not_closed_for, of_fault, office_over, open_or_shut}
 use Rattle.wb_office.proofs.ApplyLemmas.{same_err, settled_at, stays_shut}
@@ -117,6 +118,15 @@ pub holder-has-no-store : (take_number : ℕ) (machine : Machine) (refusal : Ref
     → ¬ ◌≡◌ {A = Result (Option (List ℕ)) Refusal} (Ok (holder_of machine take_number)) (Err refusal)
 holder-has-no-store take_number machine refusal of_store is = cc
 
+-- ---- what is known
+
+-- a look-up that makes nothing known
+pub keeps_known : {S A : Type 0} {g : Ghosts S} {answer_in : Machine → A} {old new : Held S}
+    (known : Known) (r : Result A StoreFault)
+    → Finds g (λ machine answer. answer ≡ answer_in machine) old new r
+    → Finds g (λ machine answer. Knows machine known → (answer ≡ answer_in machine) × Knows machine known) old new r
+keeps_known known r finds = finds_weaker r finds (λ machine answer sound is knows. (is, knows))
+
 -- ---- one query
 
 module _ {S A : Type 0} {g : Ghosts S} {answer_of : Machine → Result A Refusal} {is_bad was_closed : Bool} {was_known : Known} {old : Held S} where
@@ -125,10 +135,10 @@ module _ {S A : Type 0} {g : Ghosts S} {answer_of : Machine → Result A Refusal
   asked_shut closed = record {
     was_clean = λ clean. clean;
     limit = refl;
-    same = refl;
-    shut = λ _. (refl, closed, refl);
+    shut = λ _. (refl, closed, refl, refl);
     stands = λ opened. absurd (both_ways was_closed opened closed);
     named = λ opened bad. absurd (both_ways was_closed opened closed);
+    knows = λ clean machine stands. stands.knows;
     asked = λ clean machine stands opened. absurd (both_ways was_closed opened closed);
   }
 
@@ -138,27 +148,32 @@ module _ {S A : Type 0} {g : Ghosts S} {answer_of : Machine → Result A Refusal
   asked_malformed opened bad refuses = record {
     was_clean = λ clean. clean;
     limit = refl;
-    same = refl;
     shut = λ closed. absurd (both_ways was_closed opened closed);
     stands = λ _. record { ok = tt; never = λ is. cc; ends = λ of_store. cc; opens = λ _ _ closed. both_ways was_closed opened closed };
     named = λ _ _. (refl, opened, refl);
+    knows = λ clean machine stands. stands.knows;
     asked = λ clean machine stands _. inl (refuses machine, settled_at stands opened, opened, others_equal (state g old).now (state g old).now refl);
   }
 
   -- the look-ups succeed
-  pub asked_found : {answer_in : Machine → Result A Refusal} {new : Held S} (r : Result A Refusal) → was_closed ≡ false → is_bad ≡ false → ((machine : Machine) → answer_of machine ≡ answer_in machine)
-      → IfErr r (λ refusal. is_of_store refusal ≡ false) → Finds g (λ machine answer. answer ≡ answer_in machine) old new (Ok r) → Asks g answer_of is_bad was_closed was_known old was_closed was_known new r
-  asked_found {new = new} r opened is_good same of_state finds = record {
+  pub asked_found : {answer_in : Machine → Result A Refusal} {known : Known} {new : Held S} (r : Result A Refusal)
+      → was_closed ≡ false → is_bad ≡ false
+      → ((machine : Machine) → answer_of machine ≡ answer_in machine) → IfErr r (λ refusal. is_of_store refusal ≡ false)
+      → Finds g (λ machine answer. Knows machine was_known → (answer ≡ answer_in machine) × Knows machine known)
+      old new (Ok r)
+      → Asks g answer_of is_bad was_closed was_known old was_closed known new r
+  asked_found {known = known} {new = new} r opened is_good same of_state finds = record {
     was_clean = was_clean (state g old) (state g new) finds.survives;
     limit = finds.survives.limit;
-    same = refl;
     shut = λ closed. absurd (both_ways was_closed opened closed);
     stands = λ _. found_stands r of_state;
     named = λ _ bad. absurd (both_ways is_bad is_good bad);
+    knows = λ clean machine stands.
+        ((found g old new finds clean stands.consistent (settled_at stands opened)).1 stands.knows).1;
     asked = λ clean machine stands _.
         let at = found g old new finds clean stands.consistent (settled_at stands opened) in
         let kept = stays_others g old new (finds.same clean (settled_at stands opened).holds.stands.has) in
-        inl (same machine ∙ sym at.1, at.0, opened, kept);
+        inl (same machine ∙ sym (at.1 stands.knows).0, at.0, opened, kept);
   }
     where
       found_stands : (r : Result A Refusal) → IfErr r (λ refusal. is_of_store refusal ≡ false) → StandsOn (was_closed ≡ true) r
@@ -171,15 +186,18 @@ module _ {S A : Type 0} {g : Ghosts S} {answer_of : Machine → Result A Refusal
       }
 
   -- a look-up fails
-  pub asked_unread : {B : Type 0} {Answers : Machine → B → Type 0} {at new : Held S} {is_closed : Bool} {e : StoreFault} {refusal : Refusal} → was_closed ≡ false → is_bad ≡ false
-      → Finds g Answers old at (Err e) → EndsWith g e at new refusal is_closed → Asks g answer_of is_bad was_closed was_known old is_closed was_known new (Err refusal)
-  asked_unread {at = at} {e = e} {refusal = refusal} opened is_good finds ends = record {
+  pub asked_unread : {B : Type 0} {Answers : Machine → B → Type 0} {at new : Held S} {is_closed : Bool}
+      {e : StoreFault} {refusal : Refusal} {known : Known} → was_closed ≡ false → is_bad ≡ false
+      → ((machine : Machine) → Knows machine was_known → Knows machine known)
+      → Finds g Answers old at (Err e) → EndsWith g e at new refusal is_closed
+      → Asks g answer_of is_bad was_closed was_known old is_closed known new (Err refusal)
+  asked_unread {at = at} {e = e} {refusal = refusal} opened is_good keeps finds ends = record {
     was_clean = λ clean. was_clean (state g old) (state g at) finds.survives (ends.was_clean clean);
     limit = ends.limit ∙ finds.survives.limit;
-    same = refl;
     shut = λ closed. absurd (both_ways was_closed opened closed);
     stands = λ _. record { ok = tt; never = λ is. not_closed_for e (sym ends.told ∙ same_err is); ends = ends.ends; opens = λ no_store other _. none_opens e ends.told no_store other };
     named = λ _ bad. absurd (both_ways is_bad is_good bad);
+    knows = λ clean machine stands. keeps machine stands.knows;
     asked = λ clean machine stands _.
         let failed = not_found g old at finds (ends.was_clean clean) (settled_at stands opened) in
         inr (
@@ -209,19 +227,20 @@ module _ {S A : Type 0} {g : Ghosts S} {answer_of : Machine → Result A Refusal
   stays_open : IsAskedAt g answer_of machine old is_closed new r → was_closed ≡ false → StandsAt machine is_closed known (state g new)
   stays_open (inl answered) opened = record {
     consistent = stands.consistent;
-    knows = subst (Knows machine) (sym h.same) stands.knows;
+    knows = h.knows clean machine stands;
     back = settled_back (state g new) answered.1;
     is_open = λ _. answered.1.is_open;
   }
   stays_open (inr (refusal, is, unread)) opened = record {
     consistent = stands.consistent;
-    knows = subst (Knows machine) (sym h.same) stands.knows;
+    knows = h.knows clean machine stands;
     back = unread.back;
     is_open = unread.is_open;
   }
 
   stays : StandsAt machine is_closed known (state g new)
-  stays = open_or_shut was_closed (λ closed. let s = h.shut closed in stays_shut g stands s.1 h.same s.2) (λ opened. stays_open (h.asked clean machine stands opened) opened)
+  stays = open_or_shut was_closed (λ closed. let s = h.shut closed in stays_shut g stands s.1 s.2 s.3)
+      (λ opened. stays_open (h.asked clean machine stands opened) opened)
 
   -- a refusal for an error of a look-up is no refusal of the state
   unread_is : {refusal : Refusal} → IsUnread g machine old new is_closed refusal → refusal ≢ Memory → is_of_store refusal ≡ true

@@ -1,6 +1,7 @@
 -- What an office knows of its tables: it is copied, and it is so after a command too.
 use Rattle.std.proofs.Common.{◌≡◌, ◌≢◌, ◌∙◌, refl, sym, ap, ap₂, subst, ℕ, ◌+◌, ◌<◌, ◌≤◌, List, [], ◌∷◌, ◌++◌, append_assoc, append-nil, drop, get_or, length, Option, Some, None, IfSome}
 use Rattle.std.proofs.lemmas.List.{drop_all}
+use Rattle.std.specs.BTreeMap.{BTreeMap}
 use Rattle.std.specs.FinMap as map
 use Rattle.deb_text.specs.Text.{text_cmp}
 use Rattle.wb_states.specs.declared.arch.OsCpu.{OsCpu}
@@ -9,6 +10,7 @@ use Rattle.wb_states.specs.declared.command.Command.{Command}
 use Rattle.wb_states.specs.declared.command.Command.TheVariants as of
 use Rattle.wb_states.specs.declared.command.Report.{Report}
 use Rattle.wb_states.specs.declared.counts.Counts.{Counts}
+use Rattle.wb_states.specs.declared.counts.StateCounts.{StateCounts}
 use Rattle.wb_states.specs.declared.refusal.Refusal.{Refusal}
 use Rattle.wb_states.specs.Machine.{Machine}
 use Rattle.wb_states.specs.Queue.{Entry}
@@ -21,7 +23,7 @@ use Rattle.wb_step.proofs.LocalityLemmas.{steps_change}
 use Rattle.wb_step.proofs.MergedPartLemmas.{merge_joined}
 use Rattle.wb_office.specs.declared.known.Known.{Known}
 use Rattle.wb_store.specs.Opening.{AreCountsOf}
-use Rattle.wb_office.specs.Standing.{Knows}
+use Rattle.wb_office.specs.Standing.{AreSummaries, Knows}
 use Rattle.wb_office.proofs.WrittenRowLemmas.{left_of}
 
 -- one is copied, and then those after it
@@ -63,9 +65,25 @@ archs_stay (of.Report fields) machine other = report_leaves machine fields
 archs_stay command machine other = single_leaves command machine refl refl
 
 -- what is known is known after such a command, with the counts then
-pub knows_after : (command : Command) (machine : Machine) (known : Known) (counts : Counts) → ((fields : AddArch) → command ≢ of.AddArch fields) → Knows machine known
-    → AreCountsOf (step machine command).1 counts → Knows (step machine command).1 (record { counts = counts; archs = known.archs })
-knows_after command machine known counts other knows after = record {
+pub knows_after : (command : Command) (machine : Machine) (known : Known) (counts : Counts)
+    (summaries : BTreeMap (List ℕ) StateCounts) → ((fields : AddArch) → command ≢ of.AddArch fields)
+    → Knows machine known → AreCountsOf (step machine command).1 counts
+    → AreSummaries (step machine command).1 summaries
+    → Knows (step machine command).1 (record { counts = counts; archs = known.archs; summaries = summaries })
+knows_after command machine known counts summaries other knows after are = record {
   counts = after;
   archs = subst (λ (archs : map.FinMap text_cmp OsCpu). IfSome known.archs (λ those. those.items ≡ map.entries archs)) (sym (archs_stay command machine other)) knows.archs;
+  summaries = are;
+}
+
+-- after lists were merged too
+pub knows_merged : (machine after : Machine) (known : Known) (counts : Counts)
+    (summaries : BTreeMap (List ℕ) StateCounts) → Knows machine known → after.archs ≡ machine.archs
+    → AreCountsOf after counts → AreSummaries after summaries
+    → Knows after (record { counts = counts; archs = known.archs; summaries = summaries })
+knows_merged machine after known counts summaries knows same counted are = record {
+  counts = counted;
+  archs = subst (λ (archs : map.FinMap text_cmp OsCpu). IfSome known.archs
+      (λ those. those.items ≡ map.entries archs)) (sym same) knows.archs;
+  summaries = are;
 }

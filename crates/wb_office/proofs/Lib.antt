@@ -22,6 +22,7 @@ pub mod RowsWriteLemmas
 pub mod SessionLemmas
 pub mod SoughtLemmas
 pub mod StandingLemmas
+pub mod SummaryLemmas
 pub mod StepOfLemmas
 pub mod TurnLemmas
 pub mod WriteLemmas

@@ -104,10 +104,6 @@ pub inside_by : (idle inside : Bool) → idle ≡ not inside → idle ≡ false 
 inside_by idle true is told = refl
 inside_by idle false is told = absurd (both_ways idle told is)
 
--- what is known is known after a merge too, with the counts then
-abbrev pub knows_counted : Known → Known
-knows_counted known = record { counts = counted known.counts; archs = known.archs }
-
 module _ {S R : Type 0} (g : Ghosts S) (remaining : R → Option (List ℕ)) (sources : R) (lists : List (ArchList R)) (was_known mid_known : Known) (old mid : Held S) where
   -- the architectures could not be read, and what is known stays
   pub lists_unread : {A : Type 0} {Answer : Machine → A → Type 0} {fault : StoreFault} → Finds {A = A} g Answer old mid (Err fault) → mid_known ≡ was_known
@@ -159,9 +155,12 @@ module _ {S R : Type 0} (g : Ghosts S) (remaining : R → Option (List ℕ)) (so
           subst (λ (f : FeedState). CarriesLists g (AreListsToRead MayStandAt f feeds) (AreListsDone MayStandAt IsFeedBreak f feeds) mid_known.counts mid new r) begins carries
 
       -- a merge that is carried out
-      pub lists_kept : {X : Type 0} (replies : Vec PartReply X) → Carried (Ok replies)
-          → RespondsLists g remaining sources lists was_known old (knows_counted mid_known) new (Ok (merged_answer mid_known.counts replies.items).reply)
-      lists_kept replies one = let carries = carried (Ok replies) one in record {
+      pub lists_kept : {X : Type 0} (replies : Vec PartReply X) (known : Known) → Carried (Ok replies)
+          → ((machine after : Machine) → Knows machine mid_known → after.archs ≡ machine.archs
+          → AreCountsOf after (counted mid_known.counts) → Knows after known)
+          → RespondsLists g remaining sources lists was_known old known new
+          (Ok (merged_answer mid_known.counts replies.items).reply)
+      lists_kept replies known one takes_over = let carries = carried (Ok replies) one in record {
         was_clean = λ clean. was_clean (state g old) (state g mid) finds.survives (carries.was_clean clean);
         limit = carries.limit ∙ finds.survives.limit;
         ok = λ clean machine consistent settled was.
@@ -172,7 +171,7 @@ module _ {S R : Type 0} (g : Ghosts S) (remaining : R → Option (List ℕ)) (so
               after = merged_office mid_known.counts made.last machine;
               is = merge_accepted remaining sources lists feeds machine zip names mid_known.counts knows.counts made.accepted;
               settled = made.settled;
-              knows = record { counts = (refl, refl); archs = knows.archs };
+              knows = takes_over machine (merged_office mid_known.counts made.last machine) knows refl (refl, refl);
             };
         err = λ clean machine consistent settled was. tt;
         others = λ clean machine consistent settled was.

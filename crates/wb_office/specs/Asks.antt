@@ -14,7 +14,7 @@ use Rattle.wb_store.specs.Settled.{IsSettled, IsBackAt}
 use Rattle.wb_office.specs.declared.known.Known.{Known}
 use Rattle.wb_office.specs.Applies.{CannotBeUsed, refusal_for}
 use Rattle.wb_store.specs.Finds.{FailsToFind}
-use Rattle.wb_office.specs.Standing.{StandsAt}
+use Rattle.wb_office.specs.Standing.{Knows, StandsAt}
 
 -- a query was looked up, or had to be refused: it has this answer of the state, the office stands open as before, and
 -- the tables of others keep their rows
@@ -44,14 +44,15 @@ IsAskedAt g answer_of machine old is_closed new result =
 
 -- an office over tables is asked a query, or who holds a take number, with this answer of its state, by names of which
 -- one may be malformed: a closed office, and no other, answers that it is closed; for a malformed name it is refused,
--- and nothing is done
+-- and nothing is done; and what is known then is so as what was known before
 pub record Asks {S A : Type 0} (g : Ghosts S) (answer_of : Machine → Result A Refusal) (is_bad : Bool) (was_closed : Bool) (was_known : Known) (old : Held S)
     (is_closed : Bool) (known : Known) (new : Held S) (result : Result A Refusal) : Type 0 where
   pub was_clean : HasCleanDisk (state g new) → HasCleanDisk (state g old)
   pub limit : new.step_limit ≡ old.step_limit
-  pub same : known ≡ was_known
-  pub shut : was_closed ≡ true → (result ≡ Err Closed) × (is_closed ≡ true) × (new ≡ old)
+  pub shut : was_closed ≡ true → (result ≡ Err Closed) × (is_closed ≡ true) × (known ≡ was_known) × (new ≡ old)
   pub stands : was_closed ≡ false → StandsOn (is_closed ≡ true) result
   pub named : was_closed ≡ false → is_bad ≡ true → (result ≡ Err BadName) × (is_closed ≡ false) × (new ≡ old)
+  pub knows : HasCleanDisk (state g new) → (machine : Machine)
+      → StandsAt machine was_closed was_known (state g old) → Knows machine known
   pub asked : HasCleanDisk (state g new) → (machine : Machine) → StandsAt machine was_closed was_known (state g old) → was_closed ≡ false
       → IsAskedAt g answer_of machine old is_closed new result

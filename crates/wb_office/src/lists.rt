@@ -6,7 +6,7 @@ ghost use Rattle.wb_archive.specs.Readers.{archs_refusal};
 ghost use Rattle.wb_office.specs.ListAnswers.{RespondsLists};
 
 use crate::answer::{Answered, Failure};
-use crate::known::{Known, find_archs};
+use crate::known::{Known, find_archs, learn_merged};
 use crate::merging::{carry_lists, merged};
 use crate::part_lists::feed_lists;
 use deb_control::Feed;
@@ -42,6 +42,6 @@ pub(crate) fn answer_lists<S: Alter + Drop, R: BufRead + Drop>(
     let mut sources = Feed::of(sources);
     let replies = carry_lists(alloc, store, known.counts, &mut sources, feeds)?;
     let Answered { reply, counts } = merged(known.counts, replies);
-    known.counts = counts;
+    learn_merged(known, counts);
     Ok(reply)
 }

@@ -107,10 +107,7 @@ impl<S: Alter + Drop> Office<S> {
             Ok((store, counts)) => Ok(Office {
                 alloc,
                 store,
-                known: Known {
-                    counts,
-                    archs: None,
-                },
+                known: Known::new(alloc, counts),
                 is_closed: false,
             }),
             Err(refused) => Err(refused),
@@ -243,7 +240,7 @@ impl<S: Alter + Drop> Office<S> {
         if query.has_malformed_name() {
             return Err(Refusal::BadName);
         }
-        match find_answer(&mut self.store, query) {
+        match find_answer(&mut self.store, &mut self.known, query) {
             Ok(answer) => answer,
             Err(fault) => {
                 let (refusal, is_closed) = end_with(&mut self.store, fault);
@@ -328,10 +325,7 @@ impl<D: Disk + Drop> Office<FileStore<D>> {
         Ok(Office {
             alloc,
             store,
-            known: Known {
-                counts,
-                archs: None,
-            },
+            known: Known::new(alloc, counts),
             is_closed: false,
         })
     }

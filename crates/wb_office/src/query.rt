@@ -5,29 +5,35 @@ ghost use Rattle.wb_states.specs.Holds.{holder_of};
 ghost use Rattle.wb_states.specs.Refusals.{is_of_store};
 ghost use Rattle.std.specs.Option.{option_and_then};
 ghost use Rattle.std.specs.Prelude.{Some};
-ghost use Rattle.wb_states.specs.Machine.{is_unknown_arch};
+ghost use Rattle.wb_states.specs.Machine.{Machine, is_unknown_arch};
 ghost use Rattle.wb_states.specs.Queries.{answer_in, depends_at, depends_in, found_at, item_in, mine_in};
 ghost use Rattle.wb_states.specs.Queries.{archs_in, builders_in, office_in, queue_in, records_in};
 ghost use Rattle.wb_states.specs.Queries.{summary_in};
 ghost use Rattle.wb_states.specs.State.{state_named};
 ghost use Rattle.wb_store.specs.Finds.{Finds};
+ghost use Rattle.wb_office.specs.Standing.{Knows};
 
+use crate::known::{Known, find_counts};
 use deb_text::{Items, Text};
 use sqlite::Alter;
 use std::alloc::AllocError;
 use wb_states::{Answer, KeyedRecord, Query, Record, Refusal, State, StoreFault};
 use wb_store::Store;
 
-/// What the office answers to a query of which each name has its form. The faults are those of the
-/// look-ups, and `Memory`. The database stays as it is; only a failed look-up may take a
-/// transaction back.
+/// What the office answers to a query of which each name has its form, by what is known of the
+/// tables. The faults are those of the look-ups, and `Memory`. The database stays as it is; only a
+/// failed look-up may take a transaction back.
 pub(crate) fn find_answer<S: Alter + Drop>(
     store: &mut Store<S>,
+    known: &mut Known,
     query: &Query,
 ) -> Result<Result<Answer, Refusal>, StoreFault>
-    ensures finds { Finds S.Store (λ machine answer. answer ≡ answer_in machine query.now)
+    ensures finds { Finds S.Store (λ machine answer. Knows machine known.old
+        → (answer ≡ answer_in machine query.now) × Knows machine known.new)
         store.old store.new result }
     ensures kind { IfOk result (λ answer. IfErr answer (λ refusal. is_of_store refusal ≡ false)) }
+    ensures err { IfErr result (λ _. (machine : Machine)
+        → Knows machine known.old → Knows machine known.new) }
 {
     match query {
         Query::Queue { arch } => find_queue(store, arch),
@@ -35,7 +41,7 @@ pub(crate) fn find_answer<S: Alter + Drop>(
         Query::Item { arch, source } => find_item(store, arch, source),
         Query::Mine { builder } => find_mine(store, builder),
         Query::Depends { arch, source } => find_depends(store, arch, source),
-        Query::Summary { arch } => find_summary(store, arch),
+        Query::Summary { arch } => find_summary(store, known, arch),
         Query::Office => find_office(store),
         Query::Archs => find_archs(store),
         Query::Builders => find_builders(store),
@@ -203,26 +209,30 @@ fn depends_found(
     }
 }
 
-/// The same for how many records of the architecture are in each state.
+/// The same for how many records of the architecture are in each state, which is known then.
 fn find_summary<S: Alter + Drop>(
     store: &mut Store<S>,
+    known: &mut Known,
     arch: &Text,
 ) -> Result<Result<Answer, Refusal>, StoreFault>
-    ensures finds { Finds S.Store (λ machine answer. answer ≡ summary_in machine arch.now)
+    ensures finds { Finds S.Store (λ machine answer. Knows machine known.old
+        → (answer ≡ summary_in machine arch.now) × Knows machine known.new)
         store.old store.new result }
     ensures kind { IfOk result (λ answer. IfErr answer (λ refusal. is_of_store refusal ≡ false)) }
+    ensures err { IfErr result (λ _. (machine : Machine)
+        → Knows machine known.old → Knows machine known.new) }
 {
     let is_unknown = is_unknown_arch(store, arch)?;
     if is_unknown {
         return Ok(Err(Refusal::UnknownArch));
     }
     let of_office = store.office_row()?;
-    let counts = store.counts(arch)?;
     let accepted = of_office.accepted;
-    let arch = arch.clone()?;
+    let name = arch.clone()?;
+    let counts = find_counts(store, known, arch)?;
     Ok(Ok(Answer::Summary {
         accepted,
-        arch,
+        arch: name,
         counts,
     }))
 }

@@ -19,4 +19,8 @@ returns-in_err-archs-clause-finds g c =
 
 pub returns-clause-finds : goal.returns-clause-finds
 returns-clause-finds g c = finds_from (finds_looked_up (Ok _) c.in_ok-found.ensures.looks_up)
-    (λ machine sound found knows. (c.in_ok-archs.ensures.value ∙ c.deref-2.ensures.value ∙ found, record { counts = knows.counts; archs = found }))
+    (λ machine sound found knows. (
+      c.in_ok-archs.ensures.value ∙ c.deref-2.ensures.value
+          ∙ found,
+      record { counts = knows.counts; archs = found; summaries = knows.summaries },
+    ))

@@ -1,5 +1,7 @@
-use Rattle.std.proofs.Common.{◌∙◌, Ok, sym, subst}
+use Rattle.std.proofs.Common.{◌∙◌, Ok, ap, sym, subst}
 use Rattle.wb_store.proofs.ReadLemmas.{handed_on}
+use Rattle.wb_store.specs.Opening.{AreCountsOf}
+use Rattle.wb_office.specs.declared.answer.Answered.{Answered}
 use Rattle.wb_office.specs.ListAnswers.{RespondsLists}
 use Rattle.wb_office.proofs.ListAnswerLemmas.{idle_by, inside_by, lists_kept, lists_not_begun, lists_not_idle, lists_not_kept, lists_unread}
 use Rattle.wb_office.proofs.lists.answer_lists.Goals as goal
@@ -40,10 +42,14 @@ returns-in_err-replies g c = record {
 
 pub returns : goal.returns
 returns g c = record {
-  responds = subst (λ answer. RespondsLists g.S.Store g.R.Read.remaining c.args.sources c.args.lists.items c.args.known.now c.args.store.now
-      (record { counts = answer.counts; archs = c.find_archs.new.known.archs }) c.carry_lists.new.store (Ok answer.reply)) (sym c.merged-reply.ensures.value)
+  responds = subst (λ reply. RespondsLists g.S.Store g.R.Read.remaining c.args.sources c.args.lists.items c.args.known.now c.args.store.now
+      c.learn_merged.new.known c.carry_lists.new.store (Ok reply)) (sym (ap (λ
+      (answer : Answered). answer.reply) c.merged-reply.ensures.value))
       (lists_kept g.S.Store g.R.Read.remaining c.args.sources c.args.lists.items c.args.known.now c.find_archs.new.known c.args.store.now c.find_archs.new.store
       c.in-Ok.ensures.finds (λ machine own was. (own was).1) c.requires.names c.of-sources.result c.of-sources.ensures c.in-Ok-feed_lists.feeds.items
       (λ machine own was. c.in-Ok-feed_lists.ensures.value machine (c.deref.ensures.value ∙ (own was).0))
-      c.carry_lists.new.store c.in_ok-replies.replies c.in_ok-replies.ensures.carries);
+      c.carry_lists.new.store c.in_ok-replies.replies c.learn_merged.new.known c.in_ok-replies.ensures.carries
+      (λ machine after knows same counted. c.learn_merged.ensures.knows machine after knows same
+      (subst (AreCountsOf after) (sym (ap (λ
+      (answer : Answered). answer.counts) c.merged-reply.ensures.value)) counted)));
 }

@@ -1,7 +1,6 @@
-use Rattle.std.proofs.Common.{◌≡◌, sym, ◌∙◌, subst}
+use Rattle.std.proofs.Common.{sym, ◌∙◌}
 use Rattle.wb_states.specs.Queries.{answer_in}
 use Rattle.wb_states.proofs.QueryLemmas.{answer_of-bad, answer_of-good}
-use Rattle.wb_store.specs.Finds.{Finds}
 use Rattle.wb_office.proofs.AskLemmas.{asked_found, asked_malformed, asked_unread}
 use Rattle.wb_office.proofs.office.Office.ask.Goals as goal
 
@@ -15,13 +14,12 @@ returns-in-Ok g c =
     let good = sym c.has_malformed_name.ensures.value ∙ c.if-has_malformed_name.false in
     record {
       asks = asked_found {answer_in = λ machine. answer_in machine c.args.query.now} c.in-Ok.answer c.if-self.false good (λ machine. answer_of-good machine c.args.query.now good) c.in-Ok.ensures.kind
-          (subst (Finds g.S.Store (λ machine answer. answer ≡ answer_in machine c.args.query.now) c.args.self.now.store c.find_answer.new.store) c.in-Ok.is c.find_answer.ensures.finds);
+          c.in-Ok.ensures.finds;
     }
 
 pub returns-in-Err : goal.returns-in-Err
 returns-in-Err g c =
     let good = sym c.has_malformed_name.ensures.value ∙ c.if-has_malformed_name.false in
     record {
-      asks = asked_unread c.if-self.false good
-          (subst (Finds g.S.Store (λ machine answer. answer ≡ answer_in machine c.args.query.now) c.args.self.now.store c.find_answer.new.store) c.in-Err.is c.find_answer.ensures.finds) c.end_with-refusal.ensures.ends;
+      asks = asked_unread c.if-self.false good c.in-Err.ensures.err c.in-Err.ensures.finds c.end_with-refusal.ensures.ends;
     }
