@@ -10,6 +10,7 @@ pub mod MergeAnswerLemmas
 pub mod MergeLemmas
 pub mod OneLineLemmas
 pub mod OwnLemmas
+pub mod OwnRunLemmas
 pub mod PlainLemmas
 pub mod QueryLemmas
 pub mod QueryLineLemmas

@@ -33,7 +33,7 @@ use Rattle.wb_api.specs.Runs.{AreAccepted, Exchange, IsAskedFor, Serves}
 use Rattle.wb_api.specs.declared.serve.Served.{Served}
 
 -- an exchange left the office as it was and acknowledged nothing, or its command was accepted
-abbrev Does : MayRead → Received → Served → Machine → Machine → Type 0
+abbrev pub Does : MayRead → Received → Served → Machine → Machine → Type 0
 Does may_read got ended before after =
     ((after ≡ before) × ((command : Command) → ¬ (IsAskedFor may_read got command × TellsOk ended)))
     ⊎ ((command : Command) × IsAskedFor may_read got command × IsOk (step before command).0
@@ -44,7 +44,7 @@ not_ok : (may_read : MayRead) (got : Received) (ended : Served) → ¬ (TellsOk 
 not_ok may_read got ended none command (is, tells) = none tells
 
 -- a refusal leaves the office as it was
-refusal-machine : (machine : Machine) (refusal : Refusal) (response : Response) → IsRefusal over_http machine refusal response → response.machine ≡ machine
+pub refusal-machine : (machine : Machine) (refusal : Refusal) (response : Response) → IsRefusal over_http machine refusal response → response.machine ≡ machine
 refusal-machine machine refusal response (inl same) = ap (λ (r : Response). r.machine) same
 refusal-machine machine refusal response (inr (long, same)) = ap (λ (r : Response). r.machine) same
 
@@ -162,7 +162,7 @@ query-machine machine query response standing (inr (inl (refused, shut))) = refu
 query-machine machine query response standing (inr (inr (fault, refused, failed))) = refusal-machine machine (Store fault) response refused
 
 module _ (access : Access) (may_read : MayRead) where
-  responded : (shown : Shown) (asked : Request) (before after : Machine) (standing : Standing) (old new : Option (List ℕ))
+  pub responded : (shown : Shown) (asked : Request) (before after : Machine) (standing : Standing) (old new : Option (List ℕ))
       (ended : Served)
       → RespondsWith may_read asked before after standing old new ended
       → Does may_read (received.Asked shown asked) ended before after

@@ -1,8 +1,9 @@
 -- What a run of exchanges leaves.
 use Rattle.std.specs.Prelude.{◌≡◌, ◌⊎◌, ℕ, List, [], ◌∷◌, Option, IsOk}
+use Rattle.std.proofs.Common.{inl, inr}
 use Rattle.wb_states.specs.Machine.{Machine}
 use Rattle.wb_states.specs.declared.command.Command.{Command}
-use Rattle.wb_step.specs.Offices.{Standing, Open}
+use Rattle.wb_step.specs.Offices.{Standing, Failed, InDoubt, Open, Shut}
 use Rattle.wb_step.specs.Step.{step}
 use Rattle.wb_api.specs.declared.request.Received.{Received}
 use Rattle.wb_api.specs.declared.request.Received.TheVariants as received
@@ -25,6 +26,22 @@ Serves access may_read (one ∷ others) before after standing =
     × ExchangesWith access may_read one.received before between stands old new one.ended
     × (((others ≡ []) × (after ≡ between) × (standing ≡ stands))
     ⊎ ((stands ≡ Open) × Serves access may_read others between after standing))
+
+-- the state in which an office may be found besides, if a command is in doubt: the one that this command leaves
+abbrev pub states_in_doubt : Machine → Standing → List Machine
+states_in_doubt machine Open = []
+states_in_doubt machine Shut = []
+states_in_doubt machine (InDoubt command fault) = (step machine command).1 ∷ []
+states_in_doubt machine (Failed fault) = []
+
+-- the states of a run after its first: the one after each exchange, and last the one that a command in doubt leaves
+abbrev pub states_after : (access : Access) (may_read : MayRead) (exchanges : List Exchange) (before after : Machine)
+    (standing : Standing) → Serves access may_read exchanges before after standing → List Machine
+states_after access may_read [] before after standing served = []
+states_after access may_read (one ∷ others) before after standing (between, stands, old, new, did, inl last) =
+    between ∷ states_in_doubt between stands
+states_after access may_read (one ∷ others) before after standing (between, stands, old, new, did, inr later) =
+    between ∷ states_after access may_read others between after standing later.1
 
 -- what was received asks for this command: it is the command, or the merge that the lists which it names may be read as
 abbrev pub IsAskedFor : MayRead → Received → Command → Type 0

@@ -33,7 +33,7 @@ ghost use Rattle.wb_api.specs.declared.service.Service.{Service as AnyService};
 ghost use Rattle.wb_states.specs.declared.query.Query.TheVariants as query;
 ghost use Rattle.wb_states.specs.Machine.{IsConsistent, Key, Machine};
 ghost use Rattle.wb_states.specs.declared.command.Command.{Command as AnyCommand};
-ghost use Rattle.wb_step.specs.Offices.{Open, Standing};
+ghost use Rattle.wb_step.specs.Offices.{IsSoOfEach, Open, Standing};
 ghost use Rattle.wb_step.specs.Replay.{replay};
 ghost use Rattle.sha2.specs.Sha256.{sha256};
 ghost use Rattle.wb_keys.specs.Access.{everybody};
@@ -42,12 +42,12 @@ ghost use Rattle.wb_keys.specs.declared.access.Shown.TheVariants.{Hash, Malforme
 ghost use Rattle.wb_keys.specs.declared.right.Right.{Right};
 ghost use Rattle.wb_keys.specs.declared.right.Right.TheVariants.{Build};
 ghost use Rattle.wb_step.specs.Step.{step};
-ghost use Rattle.wb_api.specs.Own.{ChangesOwn};
+ghost use Rattle.wb_api.specs.Own.{AreByBuilder, ChangesHeld, ChangesOwn, ChangesOwnInTurn};
 ghost use Rattle.wb_api.specs.Exchange.{ExchangesWith};
 ghost use Rattle.wb_api.specs.Rights.{is_allowed, kind_of_path, shown_by};
 ghost use Rattle.wb_api.specs.declared.serve.Served.{Served as AnyServed};
 ghost use Rattle.wb_api.specs.Routes.{route_at, routed};
-ghost use Rattle.wb_api.specs.Runs.{AreAccepted, Exchange, Serves};
+ghost use Rattle.wb_api.specs.Runs.{AreAccepted, Exchange, Serves, states_after};
 
 use wb_lists::Lists;
 use wb_step::CarryOut;
@@ -257,11 +257,28 @@ pub fn only_what_is_allowed_is_done<L: Lists>()
 
 /// The key of a builder alone changes no record but one that the builder held before the command,
 /// or is handed by it and so holds after it, whatever is asked: in a consistent office, as each one
-/// is that stands at a state.
-pub fn builders_change_what_they_hold()
+/// is that stands at a state. So it is of each exchange of a run whose requests all show such keys,
+/// and a record that the builder holds at no state of the run stays what it was. If the store
+/// failed at the last command, both are so with this command and without it.
+pub fn builders_change_what_they_hold<L: Lists>()
+    // one command
     ensures step { (builder : List ℕ) (machine : Machine) (command : AnyCommand) (key : Key)
         → IsConsistent machine → may_command (Build builder ∷ []) machine command ≡ true
         → ChangesOwn builder machine (step machine command).1 key }
+    // each exchange of a run, and all of them
+    ensures each { (access : AnyAccess) (lists : L) (builder : List ℕ) (exchanges : List Exchange)
+        (before after : Machine) (standing : Standing) (key : Key)
+        (served : Serves access (L.may_read lists) exchanges before after standing)
+        → IsConsistent before → AreByBuilder access builder exchanges
+        → ChangesOwnInTurn builder before
+        (states_after access (L.may_read lists) exchanges before after standing served) key }
+    ensures run { (access : AnyAccess) (lists : L) (builder : List ℕ) (exchanges : List Exchange)
+        (before after : Machine) (standing : Standing) (key : Key)
+        (served : Serves access (L.may_read lists) exchanges before after standing)
+        → IsConsistent before → AreByBuilder access builder exchanges
+        → IsSoOfEach (λ found. ChangesHeld builder (before
+        ∷ states_after access (L.may_read lists) exchanges before after standing served)
+        before found key) after standing }
 {}
 
 /// By examples: what the field of a key shows (RFC 6750, section 2.1). The scheme is read in
