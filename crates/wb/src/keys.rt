@@ -112,23 +112,22 @@ impl<'a> KeyFile<'a> {
 
     /// Who may ask by the keys of the file, or says on standard error why it is not read.
     pub(crate) fn first_access(&mut self) -> Option<Access> {
-        match self.read(true) {
-            Ok(keys) => Some(Access::ByKeys(keys)),
-            Err(why) => {
-                let _ = eprintln!(self.rt; "wb: the keys in {} are not read: {why}", self.name);
-                None
-            }
-        }
+        self.access(true, "")
     }
 
-    /// The same of a file that was changed while keys are in force, which stay in force if it is
-    /// not read, or is empty.
+    /// Who may ask by the keys of a file that was changed while others are in force, which stay in
+    /// force if it is not read, or is empty. Says on standard error why it is not read.
     pub(crate) fn next_access(&mut self) -> Option<Access> {
-        match self.read(false) {
+        self.access(false, ", and those before stay in force")
+    }
+
+    // Both, with what is said after why it is not read.
+    fn access(&mut self, may_be_empty: bool, follows: &str) -> Option<Access> {
+        match self.read(may_be_empty) {
             Ok(keys) => Some(Access::ByKeys(keys)),
             Err(why) => {
                 let _ = eprintln!(self.rt;
-                    "wb: the keys in {} are not read, and those before stay in force: {why}",
+                    "wb: the keys in {} are not read{follows}: {why}",
                     self.name
                 );
                 None

@@ -2,7 +2,7 @@
 
 use crate::keys::KeyFile;
 use wb_api::{Served, Service};
-use wb_serve::{Clients, Turn};
+use wb_serve::{Clients, PLACES, Turn};
 
 /// The clients of a service, which are told of when what they may ask for is to be looked up anew:
 /// before the next answer is made once the file of keys was changed.
@@ -24,6 +24,11 @@ impl<'a, 'k, C: Clients> WithKeys<'a, 'k, C> {
             is_told,
         }
     }
+
+    /// Whether a client waits for an answer.
+    fn is_waited_for(&self) -> bool {
+        (0..PLACES).any(|place| self.clients.request(place).is_some())
+    }
 }
 
 impl<'a, 'k, C: Clients> Clients for WithKeys<'a, 'k, C> {
@@ -39,7 +44,7 @@ impl<'a, 'k, C: Clients> Clients for WithKeys<'a, 'k, C> {
             return Turn::Go;
         }
         let turn = self.clients.turn(service);
-        if turn == Turn::Go && self.keys.is_changed() {
+        if turn == Turn::Go && self.is_waited_for() && self.keys.is_changed() {
             self.is_told = true;
             return Turn::Renewed;
         }
