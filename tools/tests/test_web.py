@@ -16,6 +16,7 @@ import time
 import urllib.parse
 import xml.etree.ElementTree as ElementTree
 
+import form_cases
 from harness import BIN, ROOT, expect, expect_none, free_port, main
 from serve_runs import Server
 from test_history import record
@@ -517,6 +518,8 @@ def takes_the_settings_that_it_says(folder):
         {"ARCHS": "sid=,"}, {"ARCHS": "sid=amd64 old=amd64"}, {"PORT": "0"}, {"WAIT": "x"}, {"LOG": "{source"},
         {"LOG": "https://x/{0}"}, {"LOG": "https://x/{source.__class__}"}, {"TRACKER": "javascript:alert(1)"},
         {"BUGS": "https://x/{arch}"}, {"LOG": "https://x/{source!r}"}, {"WHAT": "1"},
+        {"FORMS": "yes"}, {"FORMS": "http://builds.example.org"}, {"FORMS": "https://x.example/"}, {"FORGET": "0"},
+        {"FORMS": "https://X.example"}, {"FORMS": "https://x.example:443"}, {"FORMS": "http://localhost.example"},
     ]
     for others in wrong:
         (folder / "web.conf").write_text("".join(f'{key}="{value}"\n' for key, value in (good | others).items()))
@@ -562,7 +565,7 @@ TESTS = [
     shows_a_porter_what_failed, says_why_there_is_nothing, sorts_and_parts_lists, keeps_texts_texts,
     says_what_its_answers_are, has_links_that_lead_somewhere, says_what_is_missing, shows_what_it_has,
     shows_an_office_without_architectures, waits_no_longer_than_it_says, says_before_when, follows_its_index,
-    takes_the_settings_that_it_says, lists_its_settings, has_texts_that_are_seen,
+    takes_the_settings_that_it_says, lists_its_settings, has_texts_that_are_seen, *form_cases.TESTS,
 ]
 
 if __name__ == "__main__":

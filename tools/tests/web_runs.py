@@ -30,8 +30,8 @@ def interpreter():
 class Site:
     """The site, serving with these settings."""
 
-    def __init__(self, folder, now=None, **settings):
-        self.port = free_port()
+    def __init__(self, folder, now=None, port=None, **settings):
+        self.port = port or free_port()
         (folder / "web.conf").write_text("".join(f'{key}="{value}"\n' for key, value in settings.items()))
         variables = {**os.environ, **({"SOURCE_DATE_EPOCH": str(now)} if now else {})}
         words = [interpreter(), BIN / "wb-web", "--settings", folder / "web.conf", "--port", str(self.port)]
@@ -47,8 +47,8 @@ class Site:
 
     def __exit__(self, *_):
         self.process.kill()
-        said = self.process.communicate()[1].decode()
-        expect("Traceback" not in said, said[-2000:])
+        self.said = self.process.communicate()[1].decode()
+        expect("Traceback" not in self.said, self.said[-2000:])
 
     def ask(self, path, status=200, method="GET"):
         """The fields and the text of an answer that has this status."""
@@ -114,13 +114,13 @@ class Page(html.parser.HTMLParser):
         return " ".join("".join(self.texts).split())
 
 
-def office(folder, lines, name="office"):
-    """Carries lines out with a journal, makes its index, and serves the office."""
+def office(folder, lines, name="office", more=()):
+    """Carries lines out with a journal, makes its index, and serves the office, with these further words."""
     text = "".join(f"{line}\n" for line in lines)
     words = [WB, "--store", f"{name}.db", "run", "--journal", f"{name}.journal"]
     subprocess.run(words, cwd=folder, input=text, text=True, capture_output=True, timeout=WAIT, check=False)
     update(folder, name)
-    return Server(folder, f"{name}.db")
+    return Server(folder, f"{name}.db", more=more)
 
 
 def update(folder, name="office"):

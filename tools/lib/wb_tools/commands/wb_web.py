@@ -19,7 +19,8 @@ THREADS = 8
 DESCRIPTION = """Serves pages of HTML on 127.0.0.1 that show where each architecture and each package of one or several
 offices stands, since when, what builders did, and what happened last; a web server is put before it. It asks the
 offices, which serve on the same machine, and the indexes of their journals, which `wb-history JOURNAL index` makes. It
-keeps nothing, and changes nothing. Each page has the same address with .json at its end.
+writes no file, and changes nothing but by the forms of porters who gave a key. Each page has the same address with
+.json at its end.
 
 It needs Flask and waitress, in Debian python3-flask and python3-waitress.
 
@@ -28,9 +29,11 @@ The settings are lines KEY=VALUE, with one pair of quotes around a value that ha
 the architectures and the builders of each that are shown; without them the office is asked for all that it has. PORT is
 the one on which the site listens (8090), KEY_FILE is the file with the key that is shown to the offices, if nobody may
 read without one, or words SUITE=FILE for each, TITLE stands above its pages, WAIT is how many seconds offices have to
-answer what a page asks (10), SILENT after how many hours without a word a builder is called silent (24). LOG, TRACKER,
-BUGS and BINARY are addresses to which the pages lead, with {source}, {version}, {build}, {arch} and {builder} of a
-build in LOG, {source} in TRACKER and BUGS, and {package} in BINARY, for what a package waits for."""
+answer what a page asks (10), SILENT after how many hours without a word a builder is called silent (24). FORMS is the
+address at which browsers reach the site, if porters may give a key there and act on its pages; FORGET is after how many
+seconds without use such a key is forgotten (14400). LOG, TRACKER, BUGS and BINARY are addresses to which the pages
+lead, with {source}, {version}, {build}, {arch} and {builder} of a build in LOG, {source} in TRACKER and BUGS, and
+{package} in BINARY, for what a package waits for."""
 EXAMPLE = """  tools/bin/wb-web --settings web.conf
   tools/bin/wb-web --settings web.conf --port 8091"""
 STATUSES = """Status: 0 if it was ended by a signal; 2 if the words of the command line or the settings are wrong; 3 if
@@ -54,13 +57,16 @@ def serve(settings: Settings, port: int) -> int:
         import waitress
 
         from wb_tools.web.app import create
+        from wb_tools.web.forms import LARGEST
     except ImportError as why:
         say(PROGRAM, f"{why.name} is missing: in Debian it is in python3-flask or python3-waitress")
         return FAILED
     try:
         waitress.serve(
             create(settings), host="127.0.0.1", port=port, threads=THREADS, ident=None, _quiet=True,
-            max_request_body_size=0, channel_timeout=30, clear_untrusted_proxy_headers=True,
+            max_request_body_size=2 * LARGEST if settings.forms else 0, channel_timeout=30,
+            inbuf_overflow=3 * LARGEST,  # so that no form, which may have a key in it, is written to a file
+            clear_untrusted_proxy_headers=True,
         )
     except OSError as why:
         say(PROGRAM, f"port {port} of 127.0.0.1: {why.strerror}")

@@ -6,7 +6,7 @@ from collections.abc import Callable
 from pathlib import Path
 from typing import Any
 
-from flask import Flask, Response, jsonify, render_template, request
+from flask import Flask, Response, g, jsonify, render_template, request
 from werkzeug.exceptions import HTTPException, RequestURITooLarge
 
 import wb_tools
@@ -14,6 +14,8 @@ from wb_tools.answers import printable
 from wb_tools.journal import seconds_of, time_of
 from wb_tools.style import STYLE
 from wb_tools.web import feeds, lists, pages, search
+from wb_tools.web.forms import LARGEST, Forms
+from wb_tools.web.orders import FIELDS
 from wb_tools.web.pages import Page
 from wb_tools.web.settings import Settings
 from wb_tools.web.tables import Row
@@ -26,9 +28,16 @@ HEADERS = {
     "Content-Security-Policy": POLICY, "X-Content-Type-Options": "nosniff", "Referrer-Policy": "no-referrer",
     "Cross-Origin-Resource-Policy": "same-origin", "Cache-Control": "no-cache",
 }
-HIDDEN = ("template", "title", "query", "archs_known", "choices", "meanings", "meaning")  # what only a template needs
+# Of a page of who acts: it is kept nowhere, also not by a web server, and its forms say where they come from.
+HEADERS_OF_ACTING = {"Cache-Control": "no-store", "X-Accel-Expires": "0", "Referrer-Policy": "same-origin"}
+# What only a template needs.
+HIDDEN = ("template", "title", "query", "archs_known", "choices", "meanings", "meaning", "acts", "marks", "is_held")
 LONGEST = 8192  # bytes of an address
-FAULTS = {404: "There is no such page.", 405: "A page of this site is only read.", 414: "The address is too long."}
+FAULTS = {
+    404: "There is no such page.", 405: "A page is only read, and a form is only sent.",
+    413: "The form is too large: mark fewer rows.", 414: "The address is too long.",
+    415: "This is no form of a page of this site.",
+}
 
 
 def folder() -> Path:
@@ -71,13 +80,15 @@ class Site:
         static = folder() / "static"
         self.style = STYLE + (static / "site.css").read_text(encoding="utf-8")
         self.mark = (static / "mark.svg").read_text(encoding="utf-8")
+        self.forms = Forms(settings, self.rendered) if settings.forms else None
 
     def shown(self, make: Callable[..., Page], *words: str) -> Response:
         """A page, or what stands on it if the address ends in .json."""
         is_json = request.path.endswith(".json")
         if is_json and words:
             words = (*words[:-1], words[-1].removesuffix(".json"))
-        visit = Visit(self.settings, request.args.to_dict(), now())
+        acting = self.forms.acting() if self.forms and not is_json else None
+        visit = Visit(self.settings, request.args.to_dict(), now(), acting)
         try:
             page = make(visit, *words)
         finally:
@@ -94,6 +105,7 @@ class Site:
         if page["status"] >= 400 and name.endswith(".html") and not page.get("is_shown"):
             name = "fault.html"
         page.setdefault("archs_known", [arch for suite in self.settings.suites for arch in suite.archs])
+        page |= self.forms.shown() if self.forms else {}
         text = render_template(name, settings=self.settings, page=page)
         kind = "application/atom+xml" if name.endswith(".xml") else "text/html"
         return answered(Response(text, content_type=f"{kind}; charset=utf-8"), page["status"])
@@ -106,7 +118,8 @@ class Site:
         """The page of an address that is none, and of a fault of the program."""
         status = why.code or 500
         page = {"template": "fault.html", "title": str(status), "status": status, "faults": [], "now": now()}
-        return self.rendered(page | {"notes": [FAULTS.get(status, "The site failed; its messages say why.")]})
+        said = why.description if status == 403 else FAULTS.get(status, "The site failed; its messages say why.")
+        return self.rendered(page | {"notes": [said]})
 
 
 def now() -> int:
@@ -140,7 +153,7 @@ def plain_row(row: Row) -> Row:
             found[key] = "".join(part["text"] for part in value)
         elif key == "chart":
             found["days"] = [{name: day[name] for name in ("day", "built", "failed")} for day in value["days"]]
-        elif key not in ("bar", "href"):
+        elif key not in ("bar", "href", "box", "boxes"):
             found[key] = value
     return found
 
@@ -156,8 +169,11 @@ def create(settings: Settings) -> Flask:
     flask = Flask("wb-web", template_folder=str(here / "templates"), static_folder=None)
     flask.jinja_env.trim_blocks = flask.jinja_env.lstrip_blocks = True
     flask.jinja_env.filters |= {"shown": printable, "span": span_text, "clock": clock, "kind": kind_of}
+    flask.config["MAX_CONTENT_LENGTH"] = LARGEST
     site = Site(settings)
     add_pages(flask, site)
+    if site.forms:
+        add_forms(flask, site.forms)
     flask.register_error_handler(HTTPException, site.failed)
 
     @flask.before_request
@@ -169,9 +185,23 @@ def create(settings: Settings) -> Flask:
     @flask.after_request
     def add_headers(response: Response) -> Response:
         response.headers.update(HEADERS)
+        if settings.forms and response.mimetype == "text/html":
+            response.headers["Vary"] = "Cookie"
+            if g.get("acting") or request.path in ("/key", "/act", "/forget"):
+                response.headers.update(HEADERS_OF_ACTING)
         return response
 
     return flask
+
+
+def add_forms(flask: Flask, forms: Forms) -> None:
+    """The addresses of forms, and that of the page where a key is given."""
+    flask.before_request(forms.refuse_others)
+    flask.jinja_env.globals["fields"] = FIELDS
+    flask.add_url_rule("/key", "key", forms.key, methods=["GET"])
+    for rule, name, view in (("/key", "give", forms.give), ("/forget", "forget", forms.forget),
+                             ("/act", "act", forms.act)):
+        flask.add_url_rule(rule, name, view, methods=["POST"])
 
 
 def add_pages(flask: Flask, site: Site) -> None:

@@ -9,6 +9,7 @@ from wb_tools.answers import HELD, STATES
 from wb_tools.index.asking import Index, LastBuild, median_of
 from wb_tools.web.charts import bar
 from wb_tools.web.offices import Fault
+from wb_tools.web.orders import commands_from
 from wb_tools.web.pages import (
     ARCH, BUILDER, BUILDS, EVENTS, MEANINGS, PACKAGE, STATE, Page, build_row, event_row, log_of, record_row,
 )
@@ -65,6 +66,7 @@ def state(visit: Visit, arch_name: str, name: str) -> Page:
             if found:
                 page["records"] = records_table(visit, suite, arch_name, name, found["records"])
                 page["reasons"] = reasons_table(visit, found["records"])
+                page |= marks_of(visit, [row["box"] for row in page["records"]["rows"]])
     return page | {"status": visit.status(page["records"] is not None)}
 
 
@@ -89,7 +91,18 @@ def records_table(visit: Visit, suite: Suite, arch_name: str, name: str, found: 
         values = [value_of(one, order.key) for one in chosen]
     part = places_in(values, order.is_down)[order.offset : order.offset + ROWS]
     rows = [row_of(suite, chosen[at]) | {"place": places.get(str(chosen[at].get("source")))} for at in part]
+    columns = [Column("box", "Mark", "box"), *columns]
     return table(caption, columns, closely(visit, rows, builds), len(chosen), order, visit.args)
+
+
+def marks_of(visit: Visit, boxes: Sequence[Row | None]) -> Page:
+    """What may be said of the rows that are marked, and the addresses that mark all of them, those of a state, and
+    none; nothing if no row has a box."""
+    states = {box["state"] for box in boxes if box}
+    some = [state for state in STATES if state in states] if len(states) > 1 else []
+    marks = [(word, address(visit.args, marked=word)) for word in ("all", *some)]
+    page: Page = {"acts": commands_from(sorted(states)), "marks": [*marks, ("none", address(visit.args))]}
+    return page | {"is_held": not states.isdisjoint(HELD)} if states else {}
 
 
 def reasons_table(visit: Visit, found: list[dict[str, Any]]) -> Row | None:

@@ -9,6 +9,7 @@ from wb_tools.answers import STATES, Record
 from wb_tools.index.asking import Build, Event
 from wb_tools.journal import time_of
 from wb_tools.web.charts import DAYS, bar, chart
+from wb_tools.web.orders import COMMANDS, is_allowed
 from wb_tools.web.settings import Suite
 from wb_tools.web.tables import Column, Row, listed
 from wb_tools.web.visit import Visit
@@ -150,8 +151,15 @@ def package(visit: Visit, name: str) -> Page:
         "builds": listed("Builds", visit.columns(*BUILDS), builds, visit.args, "-started", "b-"),
         "events": listed("History", visit.columns(*EVENTS), events, visit.args, "-at"),
         "links": {key: getattr(visit.settings, key).format(source=quote(name)) for key in ("tracker", "bugs")},
-        "medians": medians_of(builds),
+        "medians": medians_of(builds), "acts": acts_on(rows),
     }
+
+
+def acts_on(rows: list[Row]) -> list[Row]:
+    """What may be said of rows that have a box, each command with the rows whose state allows it."""
+    found = [{"command": one, "rows": [row for row in rows if row["box"] and is_allowed(one.word, row["state"])]}
+             for one in COMMANDS.values()]
+    return [one | {"is_held": any(row["builder"] for row in one["rows"])} for one in found if one["rows"]]
 
 
 def record_rows(visit: Visit, suite: Suite, name: str) -> Iterable[Row]:
@@ -170,6 +178,7 @@ def record_row(visit: Visit, suite: Suite, record: Record) -> Row:
     row = {name: getattr(record, name) for name in ("arch", "source", "state", "version", "build", "note", "take")}
     since = visit.since(suite, (record.arch, record.source), record.state, record.take)
     row |= {"suite": suite.name, "builder": record.holder, "priority": record.build_priority or None, "since": since}
+    row["box"] = visit.box(suite, record)
     return row | {"waits": waits_of(visit, record.waits), "note": record.note or record.message}
 
 

@@ -3,8 +3,8 @@ import re
 from collections import Counter
 from collections.abc import Sequence
 
-from wb_tools.answers import STATES
-from wb_tools.web.lists import has_text
+from wb_tools.answers import STATES, Record
+from wb_tools.web.lists import has_text, marks_of
 from wb_tools.web.pages import ARCH, PACKAGE, Page
 from wb_tools.web.settings import Suite
 from wb_tools.web.tables import Column, Row, address, listed, order_of, table
@@ -69,7 +69,14 @@ def several(visit: Visit, words: list[str]) -> Page:
     links = {"left": address(visit.args, left="1"), "all": address(visit.args, left=None)}
     page: Page = {"title": f"Search for {len(words)} packages", "missing": missing, "found": found, "choices": links}
     page |= {"count": len(left), "left": left_table(visit, there) if there else None}
+    page |= marks_of(visit, [box for row in shown for box in boxes_of(visit, row)])
     return page | {"like": like_table(visit, missing)}
+
+
+def boxes_of(visit: Visit, row: Row) -> list[Row]:
+    """The boxes of a row, each in the cell of its architecture."""
+    row["boxes"] = visit.boxes.get(row["source"], {})
+    return list(row["boxes"].values())
 
 
 def states_of(row: Row) -> list[str]:
@@ -179,6 +186,13 @@ def add_noted(visit: Visit, suite: Suite, arch: str, word: str, notes: Notes) ->
             notes.setdefault(record.source, next((text for text in texts if word.casefold() in text.casefold()), ""))
 
 
+def add_state(visit: Visit, suite: Suite, row: Row, record: Record) -> None:
+    key = f"{suite.name}/{record.arch}"
+    row[key] = record.state
+    if box := visit.box(suite, record):
+        visit.boxes.setdefault(record.source, {})[key] = box
+
+
 def matrix(visit: Visit, names: Sequence[str], notes: Notes) -> list[Row]:
     """A row for each name, with its state on each architecture of each suite where it has a record."""
     rows: dict[str, Row] = {name: {"source": name, "note": notes.get(name)} for name in names}
@@ -188,5 +202,5 @@ def matrix(visit: Visit, names: Sequence[str], notes: Notes) -> list[Row]:
                 for name, row in rows.items():
                     found = visit.ask(suite, "item", arch, name)
                     if found:
-                        row[f"{suite.name}/{arch}"] = visit.record(suite, found).state
+                        add_state(visit, suite, row, visit.record(suite, found))
     return list(rows.values())

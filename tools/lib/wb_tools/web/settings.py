@@ -1,4 +1,5 @@
 """What the settings of the site say: the offices of its suites, the indexes of their journals, and links elsewhere."""
+import re
 import string
 import urllib.parse
 from collections.abc import Callable
@@ -32,6 +33,8 @@ class Settings:
     title: str = "Autobuilding"
     wait: int = 10  # seconds for all that the offices are asked for one page
     silent: int = 24  # hours without a word after which a builder is called silent
+    forms: str = ""  # the address at which browsers reach the site, if porters may act on its pages
+    forget: int = 14400  # seconds without use after which a key that was given there is forgotten
     log: str = ""  # addresses with {source} {version} {build} {arch} {package} in them
     tracker: str = ""
     bugs: str = ""
@@ -42,7 +45,9 @@ LINKS = {
     "log": ("source", "version", "build", "arch", "builder"), "tracker": ("source",), "bugs": ("source",),
     "binary": ("package",),
 }
-NUMBERS = {"port": 65535, "wait": 600, "silent": 8760}
+NUMBERS = {"port": 65535, "wait": 600, "silent": 8760, "forget": 86400}
+# An address as browsers name it in Origin (RFC 6454, section 6.1). A key passes no network without TLS.
+ORIGIN = re.compile(r"https://[a-z0-9.-]+(:[0-9]{1,5})?|http://(127\.0\.0\.1|localhost|\[::1\])(:[0-9]{1,5})?")
 
 
 def pairs_of(text: str) -> dict[str, str]:
@@ -54,6 +59,14 @@ def pairs_of(text: str) -> dict[str, str]:
             raise ValueError(f"has to be SUITE=.. for each suite, once, and has {word[:100]!r}")
         found[name] = value
     return found
+
+
+def origin_of(text: str) -> str:
+    """The address at which browsers reach a site whose pages have forms."""
+    if text and (not ORIGIN.fullmatch(text) or text.endswith((":443", ":80"))):
+        said = "has to be an address such as https://builds.example.org, without a path and in small letters; one that"
+        raise ValueError(f"{said} begins with http:// only of this machine, such as http://127.0.0.1:8090")
+    return text
 
 
 def number_in(most: int) -> Callable[[str], int]:
@@ -103,7 +116,7 @@ READERS: dict[str, Callable[[str], Any]] = {
     "title": str, **{name: number_in(most) for name, most in NUMBERS.items()},
     **{name: link_with(names) for name, names in LINKS.items()},
     "suites": pairs_of, "archs": pairs_of, "builders": pairs_of, "indexes": pairs_of,
-    "key_file": lambda text: keys_of(text, "KEY_FILE"),
+    "key_file": lambda text: keys_of(text, "KEY_FILE"), "forms": origin_of,
 }
 
 

@@ -10,6 +10,8 @@ from wb_tools.index.asking import Index, Since
 from wb_tools.journal import Key, time_of
 from wb_tools.lists import Refused
 from wb_tools.web.offices import Asker, Fault, Known
+from wb_tools.web.orders import Marked
+from wb_tools.web.sessions import Session
 from wb_tools.web.settings import Settings, Suite
 from wb_tools.web.tables import Column, Row
 
@@ -17,16 +19,22 @@ FOUND, UNKNOWN = 200, 404
 
 
 class Visit:
-    """What one request asks, over all suites or that which its address names."""
+    """What one request asks, over all suites or that which its address names, by whoever gave a key, if somebody did.
+    `marked` says which rows are marked at first: all, or those of a state."""
 
-    def __init__(self, settings: Settings, args: Mapping[str, str], now: int) -> None:
-        self.settings, self.args, self.now = settings, args, now
+    def __init__(
+        self, settings: Settings, args: Mapping[str, str], now: int, acting: Session | None = None
+    ) -> None:
+        self.settings, self.now, self.acting = settings, now, acting
+        self.args = {key: value for key, value in args.items() if key != "marked"}
+        self.marked = args.get("marked", "")
         self.asker = Asker(settings.wait)
         self.faults: list[Fault] = []
         self.notes: list[str] = []  # what is said above a page besides
         self.heard: set[str] = set()  # the suites whose offices answered all that they were asked
         self.indexes: dict[str, Index | None] = {}
         self.queues: dict[tuple[str, str], list[str]] = {}
+        self.boxes: dict[str, dict[str, Row]] = {}  # of the cells of packages, by their names and the cells' columns
 
     def suites(self) -> list[Suite]:
         """The suites that the page is of: that which its address names, else all."""
@@ -82,6 +90,14 @@ class Visit:
 
     def record(self, suite: Suite, found: dict[str, Any]) -> Record:
         return self.asker.record(suite, found)
+
+    def box(self, suite: Suite, record: Record) -> Row | None:
+        """The box by which a record is marked; none if nobody acts here, or not on its architecture."""
+        if self.acting is None or not self.acting.may(suite.name, record.arch):
+            return None
+        take = "-" if record.take is None else str(record.take)
+        one = Marked(suite.name, record.arch, record.source, record.version, record.build, record.state, take)
+        return {"text": one.text(), "state": one.state, "is_marked": self.marked in ("all", one.state)}
 
     def status(self, is_known: bool) -> int:
         """The status of the page: that of the fault if no office answered all; or unknown, if nothing is known of what
