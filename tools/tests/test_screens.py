@@ -1,7 +1,8 @@
 #!/usr/bin/env python3
 """Tests of the site (tools/bin/wb-web) in a browser, which Chromium's DevTools protocol leads, with each page as it is
 served: that it loads nothing from elsewhere and breaks no policy, that nothing is wider than the screen of a phone or a
-desk, that each text can be told from its ground, in light and dark, and what a reader of the screen is told of tables.
+desk, that each text can be told from its ground, in light and dark, what a reader of the screen is told of tables, and
+that a porter can act by keys alone.
 
     tools/tests/test_screens.py [NAME..]     these tests, or all
 
@@ -13,7 +14,10 @@ import sys
 import time
 
 from devtools import Browser
+from form_cases import failures
+from form_runs import acting, record
 from harness import expect, expect_none, main
+from key_runs import key
 from look_runs import browser
 from test_web import LONG, PATHS, day, settings
 from web_runs import Page, Site, office
@@ -116,9 +120,10 @@ LOOK = """(() => {
   }).map((one) => one.outerHTML.slice(0, 80));
   cut.push(...[...page.querySelectorAll("td, th")].filter((one) => one.clientWidth > 1 &&
     one.scrollWidth > one.clientWidth + 1).map((one) => "cell " + one.outerHTML.slice(0, 80)));
-  const small = [...page.querySelectorAll("input, button")].filter((one) => one.getBoundingClientRect().height < 24);
-  return {wide: page.documentElement.scrollWidth, cut, small: small.length,
-    named: [...page.querySelectorAll("input")].every((one) => one.type == "hidden" || one.labels.length)};
+  const seen = [...page.querySelectorAll("input, button")].filter((one) => one.checkVisibility());
+  const small = seen.filter((one) => one.getBoundingClientRect().height < 24);
+  return {wide: page.documentElement.scrollWidth, cut, small: small.length, fields: seen.length,
+    named: seen.every((one) => one.tagName == "BUTTON" || one.labels.length)};
 })()"""
 
 
@@ -240,8 +245,7 @@ def is_led_by_keys(folder):
         led.open(url + "/history")
         names = []
         for _ in range(40):
-            for kind in ("keyDown", "keyUp"):
-                led.say("Input.dispatchKeyEvent", type=kind, key="Tab", code="Tab", windowsVirtualKeyCode=9)
+            press(led, "Tab")
             found = led.value("""(() => { const one = document.activeElement, box = one.getBoundingClientRect();
                 return {name: one.textContent.trim() || one.name || "", box: [box.left, box.right, box.height],
                     frame: getComputedStyle(one).outlineStyle}; })()""")
@@ -250,9 +254,85 @@ def is_led_by_keys(folder):
     expect(names[0] == "To the content" and {"Search", "Show", "Time", "source"} <= set(names), f"{names}")
 
 
+def press(led, name):
+    """Presses a key: Tab, Enter or Space."""
+    code, text = {"Tab": (9, ""), "Enter": (13, "\r"), "Space": (32, " ")}[name]
+    what = {"key": text if name == "Space" else name, "code": name, "windowsVirtualKeyCode": code}
+    led.say("Input.dispatchKeyEvent", type="keyDown", **what, **({"text": text} if text else {}))
+    led.say("Input.dispatchKeyEvent", type="keyUp", **what)
+
+
+# ---- what a porter is shown, who gave a key
+
+
+@contextlib.contextmanager
+def seen_acting(folder):
+    """A browser in which a key was given, of a porter of both architectures, and the office of which 40 failed."""
+    browser()
+    with acting(folder, failures(40, ("amd64", "arm64"))) as (served, _, porter), Browser(folder) as led:
+        led.open(f"{porter.origin}/key?back=/arch/amd64/Build-Attempted")
+        led.value("document.getElementById('key').focus()")
+        led.say("Input.insertText", text=key("anna"))
+        press(led, "Enter")
+        led.wait_for("Page.loadEventFired")
+        yield led, porter.origin, served
+
+
+def has_forms_that_fit(folder):
+    """With boxes and forms pages are as wide as their screens, each box and field has a name and is large enough for a
+    finger, texts differ from their ground, and tables are read with their heads."""
+    paths = ["/arch/amd64/Build-Attempted?marked=all", "/package/p00", "/?q=p00+p01+p02", "/key", "/"]
+    count = 0
+    with seen_acting(folder) as (led, url, _):
+        for path, width in screens(led, url, WIDTHS, paths):
+            led.value("document.querySelectorAll('details').forEach((one) => { one.open = true; })")
+            met = led.value(LOOK)
+            expect(not met["cut"] and not met["small"] and met["named"], f"{path} at {width}: {met}")
+            expect(met["wide"] <= width and met["fields"] > 2, f"{path} at {width}: {met}")
+            for pair, ratio, text in led.value(CONTRAST):
+                expect(ratio >= 4.5, f"{path} at {width}: {text!r}: {pair} differ by {ratio:.2f}")
+            for table in led.tables():
+                expect("rowheader" in table["kinds"] or table["heads"][0] == "Mark", f"{path} at {width}: {table}")
+                expect({len(row) for row in table["rows"]} == {len(table["heads"])}, f"{path} at {width}: {table}")
+            expect(not led.reports, f"{path}: {led.reports}")
+            count += 1
+    return f"{count} screens"
+
+
+def acts_by_keys(folder):
+    """A key marks a box, Enter in a field does nothing, and a button that is pressed by a key carries out what it says,
+    with the browser's own fields of where a form comes from."""
+    with seen_acting(folder) as (led, url, served):
+        led.show_on(390)
+        expect(led.value("location.pathname") == "/arch/amd64/Build-Attempted", led.value("location.href"))
+        expect(led.value("document.cookie") == "", "a script could read the cookie")
+        led.value("document.querySelector('#main table input').focus()")
+        press(led, "Space")
+        expect(led.value("document.querySelectorAll(':checked').length") == 1, "a key marks no box")
+        for _ in range(2000):
+            if led.value("document.activeElement.id") == "act-reason":
+                break
+            press(led, "Tab")
+        led.say("Input.insertText", text='it wants "more"')
+        press(led, "Enter")
+        expect(led.value("document.activeElement.id") == "act-reason", "Enter in a field sends the form")
+        press(led, "Tab")
+        expect(led.value("document.activeElement.value") == "fail", led.value("document.activeElement.outerHTML"))
+        press(led, "Space")
+        led.wait_for("Page.loadEventFired")
+        expect(led.value("document.querySelector('h1').textContent") == "Fail: 1 accepted", led.value("document.title"))
+        expect(not led.reports, f"{led.reports}")
+        now = record(served, "amd64", "p00")
+        expect((now["state"], now["note"]) == ("Failed", 'it wants "more"'), f"{now}")
+        led.open(f"{url}/package/p01")
+        led.value("document.querySelector('summary').focus()")
+        press(led, "Enter")
+        expect(led.value("document.querySelector('details').open"), "a key opens no form")
+
+
 TESTS = [
     loads_nothing_from_elsewhere, has_no_place_for_code, fits_screens, fits_long_names, has_texts_that_are_seen,
-    has_tables_that_are_read, is_led_by_keys,
+    has_tables_that_are_read, is_led_by_keys, has_forms_that_fit, acts_by_keys,
 ]
 
 if __name__ == "__main__":
