@@ -429,6 +429,9 @@ def bounds_sessions():
         expect(held.of(first) is not None, f"it ends after {clock[0]} seconds, though it is used")
     clock[0] = sessions.LONGEST
     expect(held.of(first) is None and not held.held, "it lasts for ever if it is used")
+    kept = held.begin(right("c" * 20), clock[0] - sessions.LONGEST + 1)
+    clock[0] += 1
+    expect(held.of(kept) is None, "a key that is taken over lasts longer")
     names = [held.begin(right("b" * 20)) for _ in range(sessions.OF_ONE_KEY + 1)]
     expect(held.of(names[0]) is None and all(map(held.of, names[1:])), "sessions of one key")
     for at in range(sessions.MOST):

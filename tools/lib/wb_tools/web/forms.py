@@ -95,7 +95,8 @@ class Forms:
         if not rights:
             return self.key_page(status, faults, back)
         before = self.acting()
-        identifier = self.sessions.begin({**(before.rights if before else {}), **rights})
+        kept = {suite: right for suite, right in before.rights.items() if suite not in rights} if before else {}
+        identifier = self.sessions.begin({**kept, **rights}, before.begun if before and kept else None)
         self.sessions.forget(request.cookies.get(self.cookie, ""))
         response: Response = redirect(back or "/key", 303)
         response.set_cookie(self.cookie, identifier, httponly=True, secure=self.is_secure, samesite="Strict", path="/")
@@ -151,8 +152,7 @@ class Forms:
 
     def drop(self, acting: Session, suites: set[str]) -> None:
         """Forgets the keys that the offices of these suites do not know any more."""
-        for suite in suites:
-            acting.rights.pop(suite, None)
+        acting.rights = {suite: right for suite, right in acting.rights.items() if suite not in suites}
         if not acting.rights:
             self.sessions.forget(request.cookies.get(self.cookie, ""))
             g.acting = None

@@ -52,7 +52,7 @@ class Right:
 class Session:
     """What one browser may do. `token` stands in each of its forms."""
 
-    rights: dict[str, Right]
+    rights: Mapping[str, Right]
     begun: float
     used: float
     token: str = field(default_factory=lambda: secrets.token_urlsafe(32), repr=False)
@@ -95,8 +95,9 @@ class Sessions:
         self.held: OrderedDict[str, Session] = OrderedDict()
         self.lock = threading.Lock()
 
-    def begin(self, rights: Mapping[str, Right]) -> str:
-        """The identifier of a new session, which is kept nowhere: only its hash is."""
+    def begin(self, rights: Mapping[str, Right], begun: float | None = None) -> str:
+        """The identifier of a new session, which is kept nowhere: only its hash is. `begun` is that of the session from
+        which a key is taken over."""
         identifier, now = secrets.token_urlsafe(32), self.clock()
         with self.lock:
             self.end_some(now)
@@ -106,7 +107,7 @@ class Sessions:
                     del self.held[name]
             while len(self.held) >= MOST:
                 self.held.popitem(last=False)
-            self.held[hash_of(identifier)] = Session(dict(rights), now, now)
+            self.held[hash_of(identifier)] = Session(rights, now if begun is None else begun, now)
         return identifier
 
     def end_some(self, now: float) -> None:
