@@ -481,7 +481,7 @@ forms.right_at = fail
 print(client.post("/key", data={"key": sys.argv[2]}, headers=fields).status)
 forms.right_at = lambda suite, key, end: sessions.Right(key, frozenset(["amd64"]))
 print(client.post("/key", data={"key": sys.argv[2]}, headers=fields).status)
-orders.Office = orders.office_of = fail
+orders.office_of = fail
 token = client.get("/key").text.split('name="token" value="')[1].split('"')[0]
 row = "sid amd64 hello 1 1 Failed -"
 print(client.post("/act", data={"token": token, "row": row, "do": "give-back"}, headers=fields).status)

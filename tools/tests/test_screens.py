@@ -266,10 +266,10 @@ def press(led, name):
 
 
 @contextlib.contextmanager
-def seen_acting(folder):
-    """A browser in which a key was given, of a porter of both architectures, and the office of which 40 failed."""
+def seen_acting(folder, lines):
+    """A browser in which a key was given, of a porter of amd64 and arm64, and the office after these lines."""
     browser()
-    with acting(folder, failures(40, ("amd64", "arm64"))) as (served, _, porter), Browser(folder) as led:
+    with acting(folder, lines) as (served, _, porter), Browser(folder) as led:
         led.open(f"{porter.origin}/key?back=/arch/amd64/Build-Attempted")
         led.value("document.getElementById('key').focus()")
         led.say("Input.insertText", text=key("anna"))
@@ -278,23 +278,49 @@ def seen_acting(folder):
         yield led, porter.origin, served
 
 
+def expect_form(led, where, width):
+    """A page with forms is as wide as its screen, its boxes and fields have names and are large enough for a finger,
+    its texts differ from their ground, its tables have a cell for each head, and the browser reports nothing."""
+    led.value("document.querySelectorAll('details').forEach((one) => { one.open = true; })")
+    met = led.value(LOOK)
+    expect(not met["cut"] and not met["small"] and met["named"] and met["fields"] > 2, f"{where}: {met}")
+    expect(met["wide"] <= width, f"{where}: it is {met['wide']} wide")
+    for pair, ratio, text in led.value(CONTRAST):
+        expect(ratio >= 4.5, f"{where}: {text!r}: {pair} differ by {ratio:.2f}")
+    for table in led.tables():
+        expect({len(row) for row in table["rows"]} == {len(table["heads"])}, f"{where}: {table}")
+        expect(table["kinds"] == ["rowheader"] or table["heads"][0] == "Mark", f"{where}: {table}")
+
+
 def has_forms_that_fit(folder):
-    """With boxes and forms pages are as wide as their screens, each box and field has a name and is large enough for a
-    finger, texts differ from their ground, and tables are read with their heads."""
+    """Pages with boxes and forms, and those that say what came of them, on each screen."""
     paths = ["/arch/amd64/Build-Attempted?marked=all", "/package/p00", "/?q=p00+p01+p02", "/key", "/"]
     count = 0
-    with seen_acting(folder) as (led, url, _):
+    with seen_acting(folder, failures(40, ("amd64", "arm64"))) as (led, url, _):
         for path, width in screens(led, url, WIDTHS, paths):
-            led.value("document.querySelectorAll('details').forEach((one) => { one.open = true; })")
-            met = led.value(LOOK)
-            expect(not met["cut"] and not met["small"] and met["named"], f"{path} at {width}: {met}")
-            expect(met["wide"] <= width and met["fields"] > 2, f"{path} at {width}: {met}")
-            for pair, ratio, text in led.value(CONTRAST):
-                expect(ratio >= 4.5, f"{path} at {width}: {text!r}: {pair} differ by {ratio:.2f}")
-            for table in led.tables():
-                expect("rowheader" in table["kinds"] or table["heads"][0] == "Mark", f"{path} at {width}: {table}")
-                expect({len(row) for row in table["rows"]} == {len(table["heads"])}, f"{path} at {width}: {table}")
+            expect_form(led, f"{path} at {width}", width)
             expect(not led.reports, f"{path}: {led.reports}")
+            count += 1
+    return f"{count} screens"
+
+
+def has_forms_that_fit_long_names(folder):
+    """The same with names, versions and reasons as long as they can be."""
+    paths = ["/arch/arm64/Build-Attempted?marked=all", f"/?q={'+'.join(NAMES)}&marked=all"]
+    paths += [f"/package/{name}" for name in NAMES[2:]]
+    count = 0
+    with seen_acting(folder, lines_of_names(ARCHS[:2])) as (led, url, _):
+        for path, width in screens(led, url, (*WIDTHS, 1024), paths):
+            expect_form(led, f"{path[:60]} at {width}", width)
+            count += 1
+        for width in (*WIDTHS, 1024):
+            led.show_on(width)
+            led.open(f"{url}{paths[1]}")
+            led.value(f"document.getElementById('act-reason').value = '{'r' * 1000}'")
+            led.value("document.querySelector('[value=fail]').click()")
+            led.wait_for("Page.loadEventFired")
+            expect("refused" in led.value("document.title"), led.value("document.title"))
+            expect_form(led, f"what came of it at {width}", width)
             count += 1
     return f"{count} screens"
 
@@ -302,7 +328,7 @@ def has_forms_that_fit(folder):
 def acts_by_keys(folder):
     """A key marks a box, Enter in a field does nothing, and a button that is pressed by a key carries out what it says,
     with the browser's own fields of where a form comes from."""
-    with seen_acting(folder) as (led, url, served):
+    with seen_acting(folder, failures(40, ("amd64", "arm64"))) as (led, url, served):
         led.show_on(390)
         expect(led.value("location.pathname") == "/arch/amd64/Build-Attempted", led.value("location.href"))
         expect(led.value("document.cookie") == "", "a script could read the cookie")
@@ -332,7 +358,8 @@ def acts_by_keys(folder):
 
 TESTS = [
     loads_nothing_from_elsewhere, has_no_place_for_code, fits_screens, fits_long_names, has_texts_that_are_seen,
-    has_tables_that_are_read, is_led_by_keys, has_forms_that_fit, acts_by_keys,
+    has_tables_that_are_read, is_led_by_keys, has_forms_that_fit,
+    has_forms_that_fit_long_names, acts_by_keys,
 ]
 
 if __name__ == "__main__":

@@ -10,7 +10,7 @@ from collections import Counter
 from collections.abc import Callable
 from urllib.parse import quote
 
-from flask import Response, g, redirect, request
+from flask import Response, g, make_response, redirect, request
 from werkzeug.exceptions import Forbidden, UnsupportedMediaType
 
 from wb_tools.keys import LEAST, MOST, is_key
@@ -98,13 +98,15 @@ class Forms:
         kept = {suite: right for suite, right in before.rights.items() if suite not in rights} if before else {}
         identifier = self.sessions.begin({**kept, **rights}, before.begun if before and kept else None)
         self.sessions.forget(request.cookies.get(self.cookie, ""))
-        response: Response = redirect(back or "/key", 303)
+        response = make_response(redirect(back or "/key", 303))
         response.set_cookie(self.cookie, identifier, httponly=True, secure=self.is_secure, samesite="Strict", path="/")
         return response
 
     def rights_of(self, key: GivenKey) -> tuple[dict[str, Right], list[str], int]:
         """What a key may do at each office that knows it; of the others why not, and the status if none does."""
-        rights, faults, status, end = {}, [], 403, time.monotonic() + self.settings.wait
+        rights: dict[str, Right] = {}
+        faults: list[str] = []
+        status, end = 403, time.monotonic() + self.settings.wait
         for suite in self.settings.suites:
             try:
                 right = right_at(suite, key, end)
@@ -124,7 +126,7 @@ class Forms:
             raise Forbidden(WRONG_TOKEN)
         self.sessions.forget(request.cookies.get(self.cookie, ""))
         g.acting = None
-        response: Response = redirect("/key", 303)
+        response = make_response(redirect("/key", 303))
         response.delete_cookie(self.cookie, httponly=True, secure=self.is_secure, samesite="Strict", path="/")
         return response
 

@@ -14,7 +14,7 @@ from wb_tools.lists import Refused, is_arch_name, is_version
 from wb_tools.moves import MOVES
 from wb_tools.requests.commands import change, is_of, next_number
 from wb_tools.requests.sending import ACCEPTED, NO_ANSWER, NOT_SENT, REFUSED, why
-from wb_tools.wanna_build.office import NoAnswer, NotKnown, NotSent, Record, Refusal, held_by
+from wb_tools.wanna_build.office import NoAnswer, NotKnown, NotSent, Office, Record, Refusal, held_by
 from wb_tools.web.rights import office_of
 from wb_tools.web.sessions import Session
 from wb_tools.web.settings import Settings
@@ -215,7 +215,7 @@ class Desk:
         if self.is_out(one.suite):
             return None
         try:
-            found: Record | Refusal = self.office(one.suite).item(one.arch, one.source)
+            found = self.office(one.suite).item(one.arch, one.source)
             if not isinstance(found, Refusal):
                 made(Whole, found)
             return found
@@ -225,7 +225,7 @@ class Desk:
             self.faults[one.suite] = NotKnown(f"{one.suite}: this is no record of an office")
         return None
 
-    def office(self, suite: str) -> Any:
+    def office(self, suite: str) -> Office:
         return office_of(self.suites[suite], self.session.rights[suite].key, self.end)
 
     def is_out(self, suite: str) -> bool:
