@@ -341,6 +341,24 @@ def that_may_not_give_back_by_name_asks_once(folder):
         net.expect_state("hello", "Needs-Build")
 
 
+def lets_a_porter_give_back_all_that_is_held(folder):
+    """What a builder that is gone was building and has built; the key of another architecture does not."""
+    with Keyed(folder) as net:
+        net.shows("b1")
+        for package in ("hello_1.0-1", "zlib_1:1.2.13-1"):
+            net.takes(package)
+        net.says("", "--built", "hello_1.0-1")
+        words = ("--forget-user", "b1", "--arch=amd64", "--dist=sid")
+        net.shows("other")
+        _, noted = net.call(*words, user=None, wanted=1)
+        expect(noted.count(f"the key in {net.files['other']} lacks the right port=amd64") == 2, f"it says {noted}")
+        net.shows("porter")
+        said, noted = net.call(*words, user=None)
+        expect(said.count(" -> Needs-Build") == 2 and not noted, f"it says {said}{noted}")
+        for source in ("hello", "zlib"):
+            net.expect_state(source, "Needs-Build")
+
+
 def lets_a_builder_build_to_the_end(folder):
     """With a key of its own alone a builder takes, reports and uploads, and reports a failure and what is missing."""
     with Keyed(folder) as net:
@@ -590,7 +608,8 @@ TESTS = [
     is_that_of_the_file_that_is_named, is_read_anew_and_without_its_ends, is_that_of_each_suite,
     is_in_settings_of_wanna_build, of_a_file_that_is_odd_is_not_shown, of_an_odd_file_leaves_reports_owed,
     that_is_not_known_is_said, that_is_not_known_is_said_to_porters_and_builders,
-    that_is_taken_away_leaves_reports_owed, that_may_not_give_back_by_name_asks_once, lets_a_builder_build_to_the_end,
+    that_is_taken_away_leaves_reports_owed, that_may_not_give_back_by_name_asks_once,
+    lets_a_porter_give_back_all_that_is_held, lets_a_builder_build_to_the_end,
     is_shown_by_the_operators_commands, that_lacks_a_right_stops_the_operators_commands, is_shown_by_the_site,
     is_shown_by_the_loop_of_a_builder, stands_in_no_word_and_no_environment,
     stands_in_no_file_of_the_operators_commands, would_be_found_where_it_stands,

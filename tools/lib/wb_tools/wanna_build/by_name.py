@@ -151,10 +151,9 @@ class ByName:
                 return ""
             name = {"arch": record["arch"], "source": record["source"], "version": record["version"]}
             is_building = now["state"] == "Building"
-            refusal = (
-                self.office.post("put-back", take=record["take"]) if is_building
-                else self.office.post("give-back", **name)
-            )
+            refusal = self.office.post("put-back", take=record["take"]) if is_building else None
+            if not is_building or (refusal and refusal.name == "NotAllowed"):  # a porter may say it by name alone
+                refusal = self.office.post("give-back", **name)
             return "" if refusal is None or refusal.name == "NotHeld" else str(refusal)
 
         return tried(self.seconds, once)
