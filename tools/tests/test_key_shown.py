@@ -301,7 +301,8 @@ def that_is_taken_away_leaves_reports_owed(folder):
         ):
             change()
             count = len(net.gate.shown)
-            why = f"the office answered {fault}: the key in {net.files['b1']} "
+            what = "lacks the right build=b1" if fault == "NotAllowed" else "is on no line of its keys"
+            why = f"the office answered {fault}: the key in {net.files['b1']} {what}"
             net.refuses(why, "--built", "hello_1.0-1", wanted=3)
             expect(set(net.owed()) == {"built hello"}, f"{fault}: owed is {net.owed()}")
             expect(len(net.gate.shown) - count < 5, f"{fault}: it is asked {len(net.gate.shown) - count} times")

@@ -61,10 +61,11 @@ class Refusal:
 
 
 class Office:
-    """A serving office, on a port of this machine, and the key that is shown to it."""
+    """A serving office, on a port of this machine, and the key that is shown to it. A report names no builder, so
+    `builder` is whose key a message says is missing."""
 
-    def __init__(self, port: int, seconds: float, key: KeyFile = NONE) -> None:
-        self.port, self.seconds, self.key = port, seconds, key
+    def __init__(self, port: int, seconds: float, key: KeyFile = NONE, builder: str = "BUILDER") -> None:
+        self.port, self.seconds, self.key, self.builder = port, seconds, key, builder
 
     def ask(self, method: str, path: str, body: Record | None = None) -> Record | Refusal:
         """What is answered to a request, if it is answered whole."""
@@ -76,7 +77,8 @@ class Office:
         if not isinstance(said, dict):
             raise NoAnswer(f"what answers on port {self.port} of 127.0.0.1 is no office")
         if said.get("http") in NOT_ADMITTED:
-            return Refusal(said["http"], {"missing": self.key.missing(said["http"], right_for(path, body))})
+            right = right_for(path, {"builder": self.builder, **(body or {})})
+            return Refusal(said["http"], {"missing": self.key.missing(said["http"], right)})
         return self.judged(said, f"{method} {path}")
 
     def answer(self, method: str, path: str, text: bytes | None = None) -> bytes:

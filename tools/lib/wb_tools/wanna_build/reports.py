@@ -65,11 +65,11 @@ class Reports:
     def kept(self) -> Kept:
         return self.state.kept
 
-    def office(self, suite: str) -> Office:
+    def office(self, suite: str, builder: str = "BUILDER") -> Office:
         port = self.settings.port_of(suite)
         if port is None:
             raise NoAnswer(f"the settings do not have the suite {suite} any more")
-        return Office(port, self.settings.answer, self.settings.keys.of(suite))
+        return Office(port, self.settings.answer, self.settings.keys.of(suite), builder)
 
     def save(self) -> str:
         """Writes what is kept, and says why it could not be written."""
@@ -160,7 +160,7 @@ class Reports:
 
     def deliver(self, debt: Debt) -> str:
         """Sends a report until the office has answered. Says why it was refused, if it was."""
-        office = self.office(debt.suite)
+        office = self.office(debt.suite, debt.builder)
         while True:
             if debt.take is None and not self.find_take(office, debt):
                 return self.without_hold(office, debt)
