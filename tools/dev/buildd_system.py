@@ -163,6 +163,15 @@ def tunnel_command(own_port, port):
     return changed(unit.replace("\\\n", " "), ends, ("ServerAliveInterval=10", "ServerAliveInterval=2"))
 
 
+def key_commands(name, rights, user="buildd", place="~buildd/wanna-build.key"):
+    """The page's commands that make a key whose line has this name and these rights, and put it into a file of a
+    user."""
+    make, put = (line.removeprefix("# ") for line in block_of_page("# (umask 077; wb-office key add").splitlines())
+    make = changed(make, ("key add b1 build=b1 > b1.key", f"key add {name} {' '.join(rights)} > {name}.key"))
+    places = ("-o buildd -g buildd", f"-o {user} -g {user}"), ("b1.key ~buildd/wanna-build.key", f"{name}.key {place}")
+    return make, changed(put, *places)
+
+
 def accepting_command():
     """What the page says that the user buildd calls once, to accept the host's key."""
     return phrase_of_page(r"# su - buildd -c '(ssh b1@\S+ true)'")
@@ -259,6 +268,9 @@ class System:
     def as_buildd(self, command):
         return self.as_user("buildd", command)
 
+    def as_root(self, command):
+        return self.inside(["sh", "-c", f"cd /root; {command}"])
+
     def by_cron(self, command):
         """A command of buildd, as cron calls it."""
         variables = f"HOME=/{HOME} LOGNAME=buildd SHELL=/bin/sh PATH=/usr/bin:/bin"
@@ -301,13 +313,14 @@ class System:
         (self.root / "srv/incoming").chmod(0o777)
         (self.root / "run/sshd").mkdir(exist_ok=True)
         self.dupload = (self.root / "etc/dupload.conf").read_text()
+        self.office = (self.root / "etc/wb/office.conf").read_text()
 
     def clear(self):
         """Takes away what a trial left in the homes and the mailboxes."""
         run(self.as_buildd(
-            "rm -rf build/* upload/* go wanna-build.* .wanna-build.* sbuild-* daemon.log REDO stats/* .ssh/*"
+            "rm -rf build/* upload/* go *.key wanna-build.* .wanna-build.* sbuild-* daemon.log REDO stats/* .ssh/*"
         ))
-        run(self.as_user("b1", "rm -rf wanna-build.* .wanna-build.* .ssh"))
+        run(self.as_user("b1", "rm -rf *.key wanna-build.* .wanna-build.* .ssh"))
         for file in [*(self.root / "srv/incoming").iterdir(), *(self.root / "var/mail").iterdir()]:
             file.unlink()
 
@@ -321,7 +334,8 @@ class System:
     def log_of(self, package):
         """The mail of the last log of a package that the porter has; nothing if there is none."""
         with contextlib.suppress(mailbox.NoSuchMailboxError):
-            found = [mail for mail in self.mails("porter") if f" build of {package} on " in mail["Subject"]]
+            logs = [mail for mail in self.mails("porter") if mail["Subject"].startswith("Log for ")]
+            found = [mail for mail in logs if f" build of {package} on " in mail["Subject"]]
             return found[-1] if found else None
         return None
 

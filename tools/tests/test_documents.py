@@ -15,7 +15,7 @@ from pathlib import Path
 
 from harness import DEV, ROOT, expect, expect_none, main
 from buildd_system import (
-    accepting_command, archive_settings, buildd_settings, ending_command, line_of_key, tunnel_command,
+    accepting_command, archive_settings, buildd_settings, ending_command, key_commands, line_of_key, tunnel_command,
 )
 
 
@@ -328,6 +328,8 @@ def page_of_buildd_has_what_is_tried():
     expect(command.startswith("/usr/bin/ssh -N ") and "127.0.0.1:9998:127.0.0.1:9999" in command, f"it is {command}")
     expect(accepting_command().endswith(" true"), f"docs/BUILDD.md has {accepting_command()}")
     expect(ending_command() == "touch ~/EXIT-DAEMON-PLEASE", f"docs/BUILDD.md has {ending_command()}")
+    made, put = key_commands("a", ["build=b1"], place="~buildd/b.key")
+    expect("key add a build=b1 > a.key" in made and "buildd -m 600 a.key ~buildd/b.key" in put, f"it has {made}, {put}")
 
 
 # ---- deviations and faults
