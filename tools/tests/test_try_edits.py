@@ -77,6 +77,7 @@ def takes_comments(folder):
 
 LAST = "logic=not-proved functions=5"
 SEARCH = "no proof: expected answers in ./proofs/total/Answers.antt; `search` did not prove `value`"
+CALLS = "no proof: it calls `office::total`, which is not proved"
 MISSED = "./proofs/line/words/total/Answers.antt:4:9: error: `n` is not in scope"
 # The lines that the prover says before its last, and the edits that they refuse, by a goal or by a name alone.
 ANSWERS = [
@@ -97,6 +98,8 @@ ANSWERS = [
     ([f"fn office::line::total: {SEARCH}", f"fn office::text::total: {SEARCH}"], [], []),
     ([f"fn office::line::words::totals: {SEARCH}", f"fn office::line::words::subtotal: {SEARCH}"], [], []),
     (["fn office::total: proved", "fn office::line::words::total: not proved"], [], []),
+    # one that is proved by search and calls an edited function is not refused for that
+    ([f"fn office::total: {SEARCH}", f"fn office::line::words::total: {CALLS}"], ["total"], []),
     # a name that a proof cites is gone, which the search that failed then does not make a goal of the contract
     ([MISSED], [], ["words_total"]),
     ([MISSED, f"fn office::line::words::total: {SEARCH}"], [], ["words_total"]),
@@ -149,7 +152,8 @@ def names_what_is_changed(folder):
     for name, edit in edits.items():
         found = edit.places[0].names_among(NAMES)
         expect(found == CHANGED[name], f"{name} changes {found}")
-    (folder / "src/other.rt").write_text("impl Text {\n    fn shortest(n: u8) -> u8 {\n        n + 6\n    }\n}\n")
+    shortest = "    pub(super) fn shortest(n: u8) -> u8 {\n        n + 6\n    }\n"
+    (folder / "src/other.rt").write_text(f"impl Text {{\n{shortest}}}\n")
     edit = read(folder, "file: src/other.rt\nold: n + 6\nnew: n + 9\n")
     found = edit.places[0].names_among([*NAMES, "office::text::Text::shortest"])
     expect(found == ["office::text::Text::shortest"], f"an edit of a type's function elsewhere changes {found}")
