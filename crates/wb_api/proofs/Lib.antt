@@ -16,6 +16,7 @@ pub mod QueryLemmas
 pub mod QueryLineLemmas
 pub mod ReadLemmas
 pub mod RequestLemmas
+pub mod RespondLemmas
 pub mod ResponseLemmas
 pub mod RightLemmas
 pub mod RouterLemmas

@@ -149,6 +149,11 @@ moves P machine command pass all =
       | Some asked ↦ λ is. all asked (transition_of-may machine command asked pass.move is)
     ]) refl
 
+-- the records after a command are those after the move that it asks for
+abbrev IsTransition : Machine → Command → Type 0
+IsTransition machine command =
+    (state_after machine command).records ≡ (after_move machine (transition_of machine command)).records
+
 -- after a take the builder holds the record
 taken-holder : (builder : List ℕ) (take_number : ℕ) (move : Move) (current : Record)
     → Some (to.Take builder take_number) ≡ Some move → (record_after_move move current).holder ≡ Some builder
@@ -159,16 +164,17 @@ taken-holder builder take_number move current is = subst (λ found. IfSome found
 -- a take in the name of the builder moves a record that the builder holds after it
 handed-own : (builder name : List ℕ) (machine : Machine) (command : Command)
     → (bytes_eq name builder || false) ≡ true → Passes machine command
-    → move_of machine command ≡ on_each (to.Take name (machine.handed + 1))
-    → IfSome (transition_of machine command) (IsOwn builder machine)
-handed-own builder name machine command may pass takes =
-    moves (IsOwn builder machine) machine command pass (λ asked moved.
+    → move_of machine command ≡ on_each (to.Take name (machine.handed + 1)) → IsTransition machine command
+    → MovesOwn builder machine (counted machine (state_after machine command))
+handed-own builder name machine command may pass takes same =
+    let own = moves (IsOwn builder machine) machine command pass (λ asked moved.
     let words = arch_words machine asked.0.0.0 in
     let taken : Some (to.Take name (machine.handed + 1)) ≡ Some asked.1 =
     ap (option_map (λ (move : ArchWords → Move). move words)) (sym takes) ∙ moved.asks in (
       moved.stands,
       inr (taken-holder name (machine.handed + 1) asked.1 asked.0.1 taken ∙ ap Some (same-text name builder may)),
-    ))
+    )) in
+    (transition_of machine command, own, same)
 
 -- ---- what is reported
 
@@ -181,10 +187,10 @@ holder-at machine take_number entry is = ap (option_and_then (λ (found : Entry)
 -- a report under a take number that the builder holds, or nobody, moves a record that the builder held before
 reported-own : (builder : List ℕ) (take_number : ℕ) (machine : Machine) (command : Command) → FitHolders machine
     → (is_own builder (holder_of machine take_number) || false) ≡ true → Passes machine command
-    → target_of machine command ≡ taken_as machine take_number
-    → IfSome (transition_of machine command) (IsOwn builder machine)
-reported-own builder take_number machine command fit may pass target =
-    moves (IsOwn builder machine) machine command pass (λ asked moved.
+    → target_of machine command ≡ taken_as machine take_number → IsTransition machine command
+    → MovesOwn builder machine (counted machine (state_after machine command))
+reported-own builder take_number machine command fit may pass target same =
+    let own = moves (IsOwn builder machine) machine command pass (λ asked moved.
     let taken = sym target ∙ moved.target in
     let at = holder-at machine take_number asked.0 taken in (
       moved.stands,
@@ -192,7 +198,8 @@ reported-own builder take_number machine command fit may pass target =
         | inl none ↦ absurd (held-holder machine take_number asked.0 fit taken (sym at ∙ none))
         | inr held ↦ inl (sym at ∙ held)
       ],
-    ))
+    )) in
+    (transition_of machine command, own, same)
 
 -- ---- a command of a builder
 
@@ -200,26 +207,19 @@ accepted-own : (builder : List ℕ) (machine : Machine) (command : Command) → 
     → may_command (Build builder ∷ []) machine command ≡ true → Passes machine command
     → MovesOwn builder machine (counted machine (state_after machine command))
 accepted-own builder machine (of.Next fields) fit may pass =
-    let command = of.Next fields in
-    (transition_of machine command, handed-own builder fields.builder machine command may pass refl, refl)
+    handed-own builder fields.builder machine (of.Next fields) may pass refl refl
 accepted-own builder machine (of.Take fields) fit may pass =
-    let command = of.Take fields in
-    (transition_of machine command, handed-own builder fields.builder machine command may pass refl, refl)
+    handed-own builder fields.builder machine (of.Take fields) may pass refl refl
 accepted-own builder machine (of.Built fields) fit may pass =
-    let command = of.Built fields in
-    (transition_of machine command, reported-own builder fields.take_number machine command fit may pass refl, refl)
+    reported-own builder fields.take_number machine (of.Built fields) fit may pass refl refl
 accepted-own builder machine (of.Uploaded fields) fit may pass =
-    let command = of.Uploaded fields in
-    (transition_of machine command, reported-own builder fields.take_number machine command fit may pass refl, refl)
+    reported-own builder fields.take_number machine (of.Uploaded fields) fit may pass refl refl
 accepted-own builder machine (of.Waits fields) fit may pass =
-    let command = of.Waits fields in
-    (transition_of machine command, reported-own builder fields.take_number machine command fit may pass refl, refl)
+    reported-own builder fields.take_number machine (of.Waits fields) fit may pass refl refl
 accepted-own builder machine (of.PutBack fields) fit may pass =
-    let command = of.PutBack fields in
-    (transition_of machine command, reported-own builder fields.take_number machine command fit may pass refl, refl)
+    reported-own builder fields.take_number machine (of.PutBack fields) fit may pass refl refl
 accepted-own builder machine (of.Attempted fields) fit may pass =
-    let command = of.Attempted fields in
-    (transition_of machine command, reported-own builder fields.take_number machine command fit may pass refl, refl)
+    reported-own builder fields.take_number machine (of.Attempted fields) fit may pass refl refl
 accepted-own builder machine (of.AddArch fields) fit may pass = cc
 accepted-own builder machine (of.AddBuilder fields) fit may pass = cc
 accepted-own builder machine (of.Enter fields) fit may pass = cc

@@ -1,5 +1,5 @@
 -- What is answered to a request over HTTP, and what the request does to the office.
-use Rattle.std.specs.Prelude.{◌≡◌, ◌⊎◌, ℕ, Bool, true, false, List, Option, Result, Ok, Err, IfSome}
+use Rattle.std.specs.Prelude.{◌≡◌, ◌⊎◌, ℕ, Bool, true, false, List, Option, None, Some, Result, Ok, Err, IfSome}
 use Rattle.std.specs.Cow.{cow_str_bytes}
 use Rattle.std.specs.Io.KnownBytes.{Appends, Consumes}
 use Rattle.wb_states.specs.Machine.{Machine}
@@ -129,6 +129,20 @@ AsksFor may_read (request.Command asked) command = asked ≡ command
 AsksFor may_read (request.Query query) command = ⊥
 AsksFor may_read (request.Merge names) command = MayReadMerge may_read names.sources names.parts command
 
+-- what may be answered to a request of who shows this of a key: what the office may answer, if it is allowed; or else
+-- what is answered in its place, and the office is as it was
+abbrev pub IsAnswerTo : Access → MayRead → Shown → Request → HttpAnswer → Machine → Machine → Standing → Type 0
+IsAnswerTo access may_read shown asked answer before after standing =
+    ((is_allowed access shown before asked ≡ true)
+    × IsAnswerWith may_read before asked (response_of_answer answer after) standing)
+    ⊎ ((after ≡ before) × IsNotAllowed access shown before asked (response_of_answer answer before) standing)
+
+-- a command that a request of who shows this of a key asks for, and may ask for, is accepted
+abbrev pub AcceptsOf : Access → MayRead → Shown → Request → Machine → Machine → Type 0
+AcceptsOf access may_read shown asked before after =
+    (is_allowed access shown before asked ≡ true) × (command : Command) × AsksFor may_read asked command
+    × Accepts before command after
+
 -- the office came to a state of which this is so, and it stands open there unless it is closed now
 abbrev pub LeadsOn : {X : Type 0} → (X → Type 0) → (X → Type 0) → (X → Machine → Type 0)
     → (X → Machine → Machine → StoreFault → Type 0) → X → X → (Machine → Machine → Standing → Type 0) → Type 0
@@ -143,6 +157,11 @@ Sends response old new (served.Answered status) = (status ≡ response.status) �
 Sends response old new (served.WriteFailed status) = (status ≡ response.status) × AppendsFront old new (answer_bytes response.status response.text)
 Sends response old new result = ⊥
 
+-- what is answered was written, or a front of it; nothing was if there is no answer
+abbrev pub SendsAny : Option HttpAnswer → Option (List ℕ) → Option (List ℕ) → Served → Type 0
+SendsAny (Some answer) old new result = (machine : Machine) → Sends (response_of_answer answer machine) old new result
+SendsAny None old new result = (new ≡ old) × (result ≡ served.Mute)
+
 -- a request was answered, or its command was accepted and nothing was written, since there is no memory for the reply
 abbrev pub RespondsWith : MayRead → Request → Machine → Machine → Standing → Option (List ℕ) → Option (List ℕ) → Served
     → Type 0
@@ -151,10 +170,6 @@ RespondsWith may_read asked before after standing old new result =
     × Sends response old new result)
     ⊎ ((command : Command) × AsksFor may_read asked command × Accepts before command after
     × (standing ≡ Open) × (new ≡ old) × (result ≡ served.Mute))
-
--- a request was answered, or its command was accepted and nothing was written, without lists
-abbrev pub Responds : Request → Machine → Machine → Standing → Option (List ℕ) → Option (List ℕ) → Served → Type 0
-Responds asked before after standing old new result = RespondsWith no_lists asked before after standing old new result
 
 -- what was done about a request of who shows this of a key: it is allowed, and was answered; or it was refused, and the
 -- office is as it was

@@ -13,8 +13,8 @@ ghost use Rattle.wb_api.specs.declared.request.Received.TheVariants.{Asked};
 ghost use Rattle.wb_api.specs.declared.request.Received.{Received as AnyReceived};
 ghost use Rattle.wb_api.specs.declared.request.Request.TheVariants.{Command as asked_Command, Merge as asked_Merge};
 ghost use Rattle.wb_streams.specs.Streams.{Flags};
-ghost use Rattle.wb_api.specs.Exchange.{AsksFor, asks_merge, ExchangesWith, fails_to_write, is_asked, is_merge, is_silent};
-ghost use Rattle.wb_api.specs.Exchange.{IsAnswerWith, LeadsOn, ReceivesWith, RespondsTo, RespondsWith};
+ghost use Rattle.wb_api.specs.Exchange.{AcceptsOf, AsksFor, asks_merge, ExchangesWith, fails_to_write, is_asked};
+ghost use Rattle.wb_api.specs.Exchange.{is_merge, is_silent, IsAnswerTo, IsAnswerWith, LeadsOn, ReceivesWith};
 ghost use Rattle.wb_api.specs.Exchange.{response_of_answer, TellsOk};
 
 use crate::answer::{HttpAnswer, answer_command};
@@ -22,7 +22,7 @@ use crate::ask::answer_query;
 use crate::merge_answer::answer_merge;
 use crate::rights::not_allowed;
 use crate::route::Routes;
-use crate::serve::{KeyedRequest, Served, receive, send};
+use crate::serve::{KeyedRequest, Served, receive, respond};
 use crate::{Request, Service};
 use std::alloc::Global;
 use std::io::{Read, Write};
@@ -58,57 +58,30 @@ fn answer_request<O: MergeFrom, L: Lists>(
     }
 }
 
-/// Has the office answer a request, with the lists of a merge, and then writes the answer.
-fn respond<O: MergeFrom, L: Lists, W: Write + Drop>(
-    alloc: Global,
-    office: &mut O,
-    lists: &mut L,
-    request: &Request,
-    writer: &mut WatchedWriter<W>,
-) -> Served
-    // what is answered
-    ensures clean { O.is_clean office.new → O.is_clean office.old }
-    ensures value { LeadsOn O.is_clean O.is_closed O.stands_at O.leaves office.old office.new
-        (λ before after standing. RespondsWith (L.may_read lists.old) request.now before after standing
-        writer.old.bytes writer.new.bytes result) }
-    ensures silent { is_silent result ≡ true → writer.new.bytes ≡ writer.old.bytes }
-    ensures failed { Flags (fails_to_write result) writer.old writer.new }
-    // what is left of the lists
-    ensures kept { MayReadLess (L.may_read lists.old) (L.may_read lists.new) }
-    ensures unopened { asks_merge request.now ≡ false → lists.new ≡ lists.old }
-{
-    match answer_request(alloc, office, lists, request) {
-        Some(answer) => send(writer, &answer),
-        None => Served::Mute,
-    }
-}
-
-/// Has the office answer a request, if who asks may, and then writes the answer; or writes that it
-/// is not allowed.
-fn respond_to<O: MergeFrom, L: Lists, W: Write + Drop>(
+/// The answer to a request, by who asks: that it is not allowed, or else the answer of the office.
+fn answer_asked<O: MergeFrom, L: Lists>(
     alloc: Global,
     access: &Access,
     office: &mut O,
     lists: &mut L,
     asked: &KeyedRequest,
-    writer: &mut WatchedWriter<W>,
-) -> Served
+) -> Option<HttpAnswer>
     // what is answered
     ensures clean { O.is_clean office.new → O.is_clean office.old }
-    ensures value { LeadsOn O.is_clean O.is_closed O.stands_at O.leaves office.old office.new
-        (λ before after standing. RespondsTo access.now (L.may_read lists.old) asked.now.shown asked.now.request
-        before after standing writer.old.bytes writer.new.bytes result) }
-    ensures silent { is_silent result ≡ true → writer.new.bytes ≡ writer.old.bytes }
-    ensures failed { Flags (fails_to_write result) writer.old writer.new }
+    ensures value { IfSome result (λ answer. LeadsOn O.is_clean O.is_closed O.stands_at O.leaves
+        office.old office.new (IsAnswerTo access.now (L.may_read lists.old) asked.now.shown
+        asked.now.request answer)) }
+    ensures memory { result ≡ None → Reaches O.is_clean O.stands_at office.old office.new
+        (AcceptsOf access.now (L.may_read lists.old) asked.now.shown asked.now.request) }
     // what is left of the lists
     ensures kept { MayReadLess (L.may_read lists.old) (L.may_read lists.new) }
     ensures unopened { asks_merge asked.now.request ≡ false → lists.new ≡ lists.old }
 {
     match not_allowed(alloc, office, access, &asked.shown, &asked.request) {
-        Some(answer) => send(writer, &answer),
+        Some(answer) => Some(answer),
         None => {
             office.asked_by(access.name_of(&asked.shown));
-            respond(alloc, office, lists, &asked.request, writer)
+            answer_request(alloc, office, lists, &asked.request)
         }
     }
 }
@@ -139,7 +112,10 @@ fn exchange<O: MergeFrom, L: Lists, R: Read + Drop, W: Write + Drop>(
     ensures failed { Flags (fails_to_write result) writer.old writer.new }
 {
     match receive(alloc, routes, service, reader, writer) {
-        Ok(asked) => respond_to(alloc, &service.access, office, lists, &asked, writer),
+        Ok(asked) => {
+            let answer = answer_asked(alloc, &service.access, office, lists, &asked);
+            respond(writer, answer)
+        }
         Err(served) => served,
     }
 }

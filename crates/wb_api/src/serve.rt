@@ -13,7 +13,7 @@ ghost use Rattle.wb_api.specs.declared.request.Received.{Received as AnyReceived
 ghost use Rattle.wb_api.specs.declared.request.Request.TheVariants.{Command as asked_Command};
 ghost use Rattle.wb_streams.specs.Streams.{Flags};
 ghost use Rattle.wb_api.specs.Exchange.{Begins, Exchanges, fails_to_write, is_asked, IsAnswer, is_silent, LeadsOn};
-ghost use Rattle.wb_api.specs.Exchange.{Receives, ReceivesWith, Responds, response_of_answer, Sends, TellsOk};
+ghost use Rattle.wb_api.specs.Exchange.{Receives, ReceivesWith, response_of_answer, Sends, SendsAny, TellsOk};
 
 use crate::answer::{HttpAnswer, answer_command, fault_answer, memory_answer};
 use crate::ask::answer_query;
@@ -116,21 +116,17 @@ pub(crate) fn receive<R: Read + Drop, W: Write + Drop>(
     }
 }
 
-/// Has the office answer a request, and then writes the answer.
-fn respond<O: CarryOut, W: Write + Drop>(
-    alloc: Global,
-    office: &mut O,
-    request: &Request,
+/// Writes what is answered to a request. It is `None`, and nothing is written, if a command was
+/// accepted and there is no memory for the reply.
+pub(crate) fn respond<W: Write + Drop>(
     writer: &mut WatchedWriter<W>,
+    answer: Option<HttpAnswer>,
 ) -> Served
-    ensures clean { O.is_clean office.new → O.is_clean office.old }
-    ensures value { LeadsOn O.is_clean O.is_closed O.stands_at O.leaves office.old office.new
-        (λ before after standing. Responds request.now before after standing
-        writer.old.bytes writer.new.bytes result) }
+    ensures value { SendsAny answer writer.old.bytes writer.new.bytes result }
     ensures silent { is_silent result ≡ true → writer.new.bytes ≡ writer.old.bytes }
     ensures failed { Flags (fails_to_write result) writer.old writer.new }
 {
-    match answer_request(alloc, office, request) {
+    match answer {
         Some(answer) => send(writer, &answer),
         None => Served::Mute,
     }
@@ -156,7 +152,7 @@ fn exchange<O: CarryOut, R: Read + Drop, W: Write + Drop>(
     ensures failed { Flags (fails_to_write result) writer.old writer.new }
 {
     match receive(alloc, routes, service, reader, writer) {
-        Ok(asked) => respond(alloc, office, &asked.request, writer),
+        Ok(asked) => respond(writer, answer_request(alloc, office, &asked.request)),
         Err(served) => served,
     }
 }

@@ -7,6 +7,7 @@ use Rattle.wb_step.specs.Offices.{Open}
 use Rattle.wb_streams.specs.Streams.{Flags, Stream}
 use Rattle.wb_api.specs.Exchange.{ExchangesWith, LeadsOn, ReceivesWith, fails_to_write}
 use Rattle.wb_api.proofs.ExchangeLemmas.{unasked-exchanges}
+use Rattle.wb_api.proofs.RespondLemmas.{found-responds}
 use Rattle.wb_api.proofs.lists_exchange.exchange.Goals as goal
 
 pub returns-in-Ok-clause-value : goal.returns-in-Ok-clause-value
@@ -15,24 +16,28 @@ returns-in-Ok-clause-value g c =
       received.Asked c.in-Ok.asked.shown c.in-Ok.asked.request,
       subst (ReceivesWith c.args.service.now c.args.reader.now c.receive.new.reader) came.2.0 came.1,
       λ e. absurd (false≢true (sym e)),
-      c.respond_to.ensures.unopened,
+      c.answer_asked-answer.ensures.unopened,
       subst (λ (writer : Stream). LeadsOn g.O.CarryOut.is_clean g.O.CarryOut.is_closed g.O.CarryOut.stands_at
           g.O.CarryOut.leaves
-          c.args.office.now c.respond_to.new.office (λ before after standing.
+          c.args.office.now c.answer_asked-answer.new.office (λ before after standing.
           ExchangesWith c.args.service.now.access (g.L.Lists.may_read c.args.lists.now)
           (received.Asked c.in-Ok.asked.shown c.in-Ok.asked.request) before after standing
-          writer.bytes c.respond_to.new.writer.bytes c.respond_to.result))
-          came.2.1 c.respond_to.ensures.value,
+          writer.bytes c.respond.new.writer.bytes c.respond.result))
+          came.2.1 (found-responds c.args.service.now.access (g.L.Lists.may_read c.args.lists.now)
+          c.in-Ok.asked.shown c.in-Ok.asked.request g.O.CarryOut.is_clean g.O.CarryOut.is_closed
+          g.O.CarryOut.stands_at g.O.CarryOut.leaves c.args.office.now c.answer_asked-answer.new.office
+          c.answer_asked-answer.result _ _ c.respond.result c.answer_asked-answer.ensures.value
+          c.answer_asked-answer.ensures.memory c.respond.ensures.value),
     )
 
 pub returns-in-Ok-clause-silent : goal.returns-in-Ok-clause-silent
-returns-in-Ok-clause-silent g c = λ silent. c.respond_to.ensures.silent silent
+returns-in-Ok-clause-silent g c = λ silent. c.respond.ensures.silent silent
     ∙ ap (λ (writer : Stream). writer.bytes) c.in-Ok.ensures.value.2.1
 
 pub returns-in-Ok-clause-failed : goal.returns-in-Ok-clause-failed
 returns-in-Ok-clause-failed g c =
-    subst (λ (writer : Stream). Flags (fails_to_write c.respond_to.result) writer c.respond_to.new.writer)
-    c.in-Ok.ensures.value.2.1 c.respond_to.ensures.failed
+    subst (λ (writer : Stream). Flags (fails_to_write c.respond.result) writer c.respond.new.writer)
+    c.in-Ok.ensures.value.2.1 c.respond.ensures.failed
 
 pub returns-in-Err-clause-value : goal.returns-in-Err-clause-value
 returns-in-Err-clause-value g c =

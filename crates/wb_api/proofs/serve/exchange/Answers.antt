@@ -1,13 +1,14 @@
 -- What was received is what the input means, and it was answered.
-use Rattle.std.proofs.Common.{ap, inl, refl, subst, sym, ◌∙◌}
+use Rattle.std.proofs.Common.{ap, refl, subst, sym, ◌∙◌}
 use Rattle.std.proofs.lemmas.Bool.{false≢true}
 use Rattle.wb_api.specs.declared.request.Received.TheVariants as received
 use Rattle.wb_keys.specs.Access.{everybody}
 use Rattle.wb_lists.specs.Lists.{no_lists}
 use Rattle.wb_step.specs.Offices.{Open}
 use Rattle.wb_streams.specs.Streams.{Flags, Stream}
-use Rattle.wb_api.specs.Exchange.{Exchanges, LeadsOn, ReceivesWith, fails_to_write}
+use Rattle.wb_api.specs.Exchange.{AsksFor, Exchanges, LeadsOn, ReceivesWith, fails_to_write}
 use Rattle.wb_api.proofs.ExchangeLemmas.{unasked-exchanges}
+use Rattle.wb_api.proofs.RespondLemmas.{everybody-found, found-more, found-responds}
 use Rattle.wb_api.proofs.RightLemmas.{everybody-allowed}
 use Rattle.wb_api.proofs.serve.exchange.Goals as goal
 
@@ -19,18 +20,23 @@ returns-in-Ok-clause-value g c =
       λ e. absurd (false≢true (sym e)),
       subst (λ (writer : Stream). LeadsOn g.O.CarryOut.is_clean g.O.CarryOut.is_closed g.O.CarryOut.stands_at
           g.O.CarryOut.leaves
-          c.args.office.now c.respond.new.office (λ before after standing.
-          Exchanges (received.Asked c.in-Ok.asked.shown c.in-Ok.asked.request) before after standing writer.bytes c.respond.new.writer.bytes
-          c.respond.result))
-          came.2.1 (λ before clean stands. let did = c.respond.ensures.value before clean stands in (
-            did.0,
-            did.1,
-            did.2,
-            (
-              inl (everybody-allowed c.in-Ok.asked.shown before c.in-Ok.asked.request, did.3.0),
-              did.3.1,
-            ),
-          )),
+          c.args.office.now c.answer_request.new.office (λ before after standing.
+          Exchanges (received.Asked c.in-Ok.asked.shown c.in-Ok.asked.request) before after standing
+          writer.bytes c.respond.new.writer.bytes c.respond.result))
+          came.2.1 (found-responds everybody no_lists c.in-Ok.asked.shown c.in-Ok.asked.request
+          g.O.CarryOut.is_clean g.O.CarryOut.is_closed g.O.CarryOut.stands_at g.O.CarryOut.leaves
+          c.args.office.now c.answer_request.new.office c.answer_request.result _ _ c.respond.result
+          (found-more _ _ c.answer_request.result (everybody-found g.O.CarryOut.is_clean g.O.CarryOut.is_closed
+          g.O.CarryOut.stands_at g.O.CarryOut.leaves c.args.office.now c.answer_request.new.office
+          c.in-Ok.asked.shown c.in-Ok.asked.request) c.answer_request.ensures.value)
+          (λ none before clean stands.
+          let done = c.answer_request.ensures.memory none before clean stands in
+          let asks = subst (λ asked. AsksFor no_lists asked done.2.0) (sym done.2.1) refl in (
+            done.0,
+            done.1,
+            (everybody-allowed c.in-Ok.asked.shown before c.in-Ok.asked.request, done.2.0, asks, done.2.2),
+          ))
+          c.respond.ensures.value),
     )
 
 pub returns-in-Ok-clause-silent : goal.returns-in-Ok-clause-silent
