@@ -1,4 +1,5 @@
 pub mod AvailableLemmas
+pub mod ChangeLemmas
 pub mod ChosenLemmas
 pub mod CountLemmas
 pub mod ExampleLemmas

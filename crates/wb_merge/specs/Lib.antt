@@ -1,4 +1,5 @@
 pub mod Backwards
+pub mod Changes
 pub mod Coded
 pub mod Examples
 pub mod Growth

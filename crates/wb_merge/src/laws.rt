@@ -28,12 +28,13 @@ ghost use Rattle.wb_states.specs.Record.{FitsState, IsWellFormed};
 ghost use Rattle.wb_states.specs.State.{is_held};
 ghost use Rattle.deb_text.specs.Text.{IsTextWithin};
 ghost use Rattle.wb_merge.specs.Merge.{are_waits_met, ends_hold, HasSameHold, SaysWaitsMet};
+ghost use Rattle.wb_merge.specs.Changes.{changes_between, record_change};
 ghost use Rattle.wb_merge.specs.Examples.{Becomes, BecomesBeside, BecomesByReport, binary_of, built_at, held_in, listed_at, record_in, reported_of, source_of, version_listed};
 ghost use Rattle.wb_merge.specs.Merged.{Records, BecomesAt, record_after_at, all_kept, is_same_record, merge_counts, merged, record_after_named, recorded_names};
 ghost use Rattle.wb_merge.specs.Scratch.{built_in, is_build_of, kept_binaries, kept_sources, listed_in, listing_kept, listing_of_kept, record_found, row_of_kept, versions_in};
 ghost use Rattle.wb_states.specs.declared.scratch.SourceRow.{SourceRow as KeptSource};
 ghost use Rattle.wb_states.specs.declared.scratch.BinaryRow.{BinaryRow as KeptBinary};
-ghost use Rattle.wb_merge.specs.Steps.{Key};
+ghost use Rattle.wb_merge.specs.Steps.{Key, record_at};
 ghost use Rattle.wb_merge.specs.declared.report.ReportLine.{ReportLine};
 ghost use Rattle.wb_merge.specs.declared.report.ReportFault.TheVariants.{BadReport};
 ghost use Rattle.wb_merge.specs.Report.{AreGoodLines, IsFirstBadLine, IsWellFormedLine, IsWritten, Lines, by_source, is_reported, line_of, lines_in, read_lines, record_after_report, report_of};
@@ -177,6 +178,15 @@ pub fn merge_counts_add_up()
         → let counts = merge_counts old arch listing in
         counts.added + (counts.changed + counts.kept)
         ≡ length (recorded_names (merged old arch listing) arch) }
+{}
+
+/// The changes of an architecture between records have of each source package what became of its
+/// record: nothing exactly if it is as it was.
+pub fn changes_are_pointwise()
+    ensures at { (old new : Records) (arch name : List ℕ)
+        → map.get (changes_between old new arch) name
+        ≡ record_change (record_at old (arch, name)) (record_at new (arch, name)) }
+    ensures unchanged { (old new : Option Record) → (record_change old new ≡ None) ↔ (old ≡ new) }
 {}
 
 /// Records are found to be the same exactly if they are equal, so what is counted as kept is as it was.

@@ -2,6 +2,7 @@
 //! the records by it.
 #![tactic(auto)]
 
+mod changes;
 mod fields;
 mod found;
 pub mod laws;
@@ -17,6 +18,7 @@ mod rows;
 mod scratch;
 mod source;
 
+pub use changes::{ArchChanges, RecordChange, no_changes, note_change, note_changes};
 pub use found::{after_found, is_listed_for};
 pub use listing::{Built, Listed, Listing};
 pub use merge::{Change, counted};
