@@ -1,5 +1,6 @@
 -- What is decided source package by source package is the merge of what the tables have of the archive's lists.
-use Rattle.std.proofs.Common.{◌≡◌, ℕ, ◌+◌, ◌<◌, ◌≤◌, get_or, drop, Bool, true, false, cond, not, ◌&&◌, ◌||◌, List, [], ◌∷◌, ◌++◌, length, filter, bytes_eq, Option, Some, None, refl, sym, ap, ap₂, subst, ◌∙◌, arith}
+use Rattle.std.proofs.Common.{◌≡◌, ℕ, suc, ◌+◌, ◌<◌, ◌≤◌, get_or, drop, drop-cons, Bool, true, false, cond, not, ◌&&◌}
+use Rattle.std.proofs.Common.{◌||◌, List, [], ◌∷◌, ◌++◌, length, filter, bytes_eq, Option, Some, None, refl, sym, ap, ap₂, subst, ◌∙◌, arith}
 use Rattle.std.specs.Prelude.{IfSome}
 use Rattle.std.specs.List.{list_any}
 use Rattle.std.specs.Ordering.{eq_by_cmp}
@@ -16,14 +17,17 @@ use Rattle.wb_states.specs.declared.scratch.SourceRow.{SourceRow}
 use Rattle.wb_states.specs.declared.scratch.BinaryRow.{BinaryRow}
 use Rattle.wb_merge.specs.declared.merge.Change.{Change}
 use Rattle.wb_merge.specs.declared.merge.Change.TheVariants.{Absent, Kept}
+use Rattle.wb_merge.specs.Changes.{NamedChanges, NotesBetween, NotesChange, record_change}
 use Rattle.wb_merge.specs.Listing.{ArchiveListing, candidates, is_candidate, listed_of}
 use Rattle.wb_merge.specs.Merge.{SaysWaitsMet, record_after}
 use Rattle.wb_merge.specs.Merged.{Records, all_kept, change_of, counts_over, is_added, is_changed, is_kept, is_removed, merge_counts, merged, names_of, number_where, record_after_at, recorded_names, record_after_named}
 use Rattle.wb_merge.specs.Scratch.{available_in, listed_in, listing_of_kept, record_found, row_of_kept}
 use Rattle.wb_merge.specs.Steps.{IsSetAt, Key, record_at, counted}
+use Rattle.wb_merge.proofs.ChangeLemmas.{between-next}
 use Rattle.wb_merge.proofs.CountLemmas.{IsHalfMerged, half_merged-done, half_merged-step, plus}
 use Rattle.wb_merge.proofs.FoundLemmas.{found-rows}
-use Rattle.wb_merge.proofs.MergeLemmas.{half_merged, names-apart, recorded-apart, recorded-names-any, unnamed}
+use Rattle.wb_merge.proofs.MergeLemmas.{half-here, half_merged, names-apart, recorded-apart, recorded-names-any}
+use Rattle.wb_merge.proofs.MergeLemmas.{unnamed}
 use Rattle.wb_merge.proofs.NameLemmas.{IsApart, append-apart, bytes_eq-is, bytes_eq-turned, filter-any, filter-apart, keys-apart, none-is, pair-is}
 use Rattle.wb_merge.proofs.RecordLemmas.{set-inserted, set-kept, set-removed}
 use Rattle.wb_merge.proofs.ScratchLemmas.{listed-kept, listed_in-filter}
@@ -258,6 +262,29 @@ decided-step arch now counts names at name lt is half more made e = record {
   half = half_merged-step now.machine.records half.records _ arch.name (listing_at arch now) counts names at name lt is half.half
       (set-is half.records (arch.name, name) (record_decided arch (record now { machine = record now.machine { records = half.records } }) name)) made e;
 }
+
+-- a source package that is left has the record that it had
+half-stays : (old records : Records) (arch : List ℕ) (listing : ArchiveListing) (counts : MergeCounts)
+    (names : List (List ℕ)) (at : ℕ) (name : List ℕ) → at < length names → name ≡ get_or names at name
+    → IsHalfMerged old records arch listing counts (drop at names)
+    → record_at records (arch, name) ≡ record_at old (arch, name)
+half-stays old records arch listing counts names at name lt is half =
+    half-here old records arch listing name (drop (suc at) names)
+    (subst (λ (left : List (List ℕ)). (key : Key) → finite.get records key ≡ half_merged old arch listing left key)
+    (drop-cons names at name lt ∙ (λ i. sym is i ∷ drop (suc at) names)) half.half)
+
+-- what becomes of one source package more is noted
+pub decided-notes : (start before after : Option NamedChanges) (old records : Records) (arch : List ℕ)
+    (listing : ArchiveListing) (counts : MergeCounts) (names : List (List ℕ)) (at : ℕ) (name : List ℕ)
+    (value : Option Record) → at < length names → name ≡ get_or names at name
+    → IsHalfMerged old records arch listing counts (drop at names)
+    → NotesBetween start before old records arch
+    → NotesChange before after name (record_change (record_at records (arch, name)) value)
+    → NotesBetween start after old (set_record records (arch, name) value) arch
+decided-notes start before after old records arch listing counts names at name value lt is half between noted =
+    between-next start before after old records (set_record records (arch, name) value) arch name value
+    (half-stays old records arch listing counts names at name lt is half) (set-is records (arch, name) value) between
+    noted
 
 pub decided-done : {Holds : Records → Type 0} (old : Records) (arch : List ℕ) (listing : ArchiveListing) (counts : MergeCounts) (names : List (List ℕ)) (at : ℕ)
     → length names ≤ at → IsHalfDecided Holds old arch listing counts (drop at names)

@@ -122,6 +122,23 @@ part-among MayStand Breaks machine text bad Holds all part records end there mer
   };
 }
 
+-- what is so of the records after a part that was merged or refused
+pub part-holds : {R : Type 0} (MayStand : R → ReaderState → Type 0) (machine : Machine)
+    (Gives : Part → Result ArchiveListing Refusal → Type 0) (Holds More : Records → Type 0) (part : PartList R)
+    (records : Records) (end : PartEnd) → ((last : Records) → Holds last → More last)
+    → IsPartMerged MayStand machine Gives Holds part records end
+    → IsPartMerged MayStand machine Gives More part records end
+part-holds MayStand machine Gives Holds More part records end more merged = record {
+  of = merged.of;
+  is = merged.is;
+  done = record {
+    listing = merged.done.listing;
+    gives = merged.done.gives;
+    is = merged.done.is;
+    holds = more (records_with records merged.of.arch merged.done.listing) merged.done.holds;
+  };
+}
+
 -- ---- the list of a part
 
 -- a text at which a reader that was not read may begin

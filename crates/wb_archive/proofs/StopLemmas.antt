@@ -50,6 +50,10 @@ module _ {X F : Type 0} where
     go : ◌≡◌ {A = Result X (MergeFault F)} (Err (Tables fault)) (Ok x) → ⊥
     go e = cc
 
+  pub on-ok-just : (P : Type 0) (answer : Result X F) → P → OnOk answer P
+  on-ok-just P (Ok x) h = h
+  on-ok-just P (Err fault) h = tt
+
   pub on-ok-with : (P Q : Type 0) (answer : Result X F) → OnOk answer Q → (Q → OnOk answer P) → OnOk answer P
   on-ok-with P Q (Ok x) h step = step h
   on-ok-with P Q (Err fault) h step = tt

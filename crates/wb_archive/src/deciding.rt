@@ -6,6 +6,7 @@ ghost use Rattle.std.specs.Option.{option_map};
 ghost use Rattle.std.specs.Map.Iter.{deref};
 ghost use Rattle.deb_relations.specs.Satisfaction.{is_among};
 ghost use Rattle.deb_text.specs.Text.{text_cmp};
+ghost use Rattle.wb_merge.specs.Changes.{NotesBetween, NotesChange, record_change};
 ghost use Rattle.wb_merge.specs.Merged.{change_of, merge_counts, merged};
 ghost use Rattle.wb_merge.specs.Steps.{record_at};
 ghost use Rattle.wb_archive.specs.Decides.{AreNamesToDecide, listing_at, record_decided, set_record};
@@ -19,8 +20,8 @@ use crate::waits::is_met;
 use deb_relations::ArchWords;
 use deb_text::Text;
 use std::alloc::{AllocError, Global};
-use std::collections::BTreeSet;
-use wb_merge::{Change, after_found, counted};
+use std::collections::{BTreeMap, BTreeSet};
+use wb_merge::{Change, RecordChange, after_found, counted, note_change};
 use wb_states::{MergeCounts, Record};
 
 /// The record of the source package on the architecture, if it has one.
@@ -171,12 +172,13 @@ fn keep_record<T: MergeTables>(
     Ok(change)
 }
 
-/// Brings the record of one source package in line with what the tables have of the lists.
+/// Brings the record of one source package in line with what the tables have of the lists, and notes what becomes of it.
 fn decide_one<T: MergeTables>(
     alloc: Global,
     tables: &mut T,
     arch: &ArchWords,
     name: &Text,
+    changes: &mut Option<BTreeMap<Text, RecordChange>>,
 ) -> Result<Change, MergeFault<T::Fault>>
     ensures value { (at : Tables) → T.is_clean tables.new → T.holds tables.old at
         → OnOk result (T.holds tables.new (with_records (set_record at.now.machine.records (arch.now.name, name.now)
@@ -184,28 +186,39 @@ fn decide_one<T: MergeTables>(
     ensures change { (at : Tables) → T.is_clean tables.new → T.holds tables.old at
         → IfOk result (λ change. change ≡ change_of (record_at at.now.machine.records (arch.now.name, name.now))
         (record_decided arch.now at.now name.now)) }
+    ensures noted { (at : Tables) → T.is_clean tables.new → T.holds tables.old at
+        → OnOk result (NotesChange changes.old changes.new name.now
+        (record_change (record_at at.now.machine.records (arch.now.name, name.now))
+        (record_decided arch.now at.now name.now))) }
     ensures calls { Advances T.follows (StopsAs T.follows T.fails) tables.old tables.new result }
 {
     let old = record_of(tables, &arch.name, name)?;
-    let new = found(alloc, tables, arch, name, old.as_ref())?;
-    keep_record(tables, &arch.name, name, old.as_ref(), new)
+    let known = old.as_ref();
+    let new = found(alloc, tables, arch, name, known)?;
+    note_change(changes, name, known, new.as_ref());
+    keep_record(tables, &arch.name, name, known, new)
 }
 
 // `wb_merge` says what the record of one source package becomes; here the names in the tables are
 // gone through. `step` says the same of whole lists, which no program holds in memory.
 /// Brings the records of the architecture in line with what the tables have of the archive's lists, source package by source
 /// package, each from its own rows, and counts what it did: a record is written if it is new or a field of it differs, and
-/// taken out if its source package is not listed. All else stays (this project's own).
+/// taken out if its source package is not listed. All else stays. What becomes of each record is noted in `changes`, if
+/// these are noted (this project's own).
 pub fn decide<T: MergeTables>(
     alloc: Global,
     tables: &mut T,
     arch: &ArchWords,
+    changes: &mut Option<BTreeMap<Text, RecordChange>>,
 ) -> Result<MergeCounts, MergeFault<T::Fault>>
     ensures value { (at : Tables) → T.is_clean tables.new → T.holds tables.old at
         → OnOk result (T.holds tables.new
         (with_records (merged at.now.machine.records arch.now.name (listing_at arch.now at.now)) at)) }
     ensures counts { (at : Tables) → T.is_clean tables.new → T.holds tables.old at
         → IfOk result (λ counts. counts ≡ merge_counts at.now.machine.records arch.now.name (listing_at arch.now at.now)) }
+    ensures noted { (at : Tables) → T.is_clean tables.new → T.holds tables.old at
+        → OnOk result (NotesBetween changes.old changes.new at.now.machine.records
+        (merged at.now.machine.records arch.now.name (listing_at arch.now at.now)) arch.now.name) }
     ensures calls { Advances T.follows (StopsAs T.follows T.fails) tables.old tables.new result }
 {
     let names = names_to_decide(alloc, tables, &arch.name)?;
@@ -216,7 +229,7 @@ pub fn decide<T: MergeTables>(
         removed: 0,
     };
     for name in &names {
-        counts = counted(counts, decide_one(alloc, tables, arch, name)?);
+        counts = counted(counts, decide_one(alloc, tables, arch, name, changes)?);
     }
     Ok(counts)
 }

@@ -11,6 +11,7 @@ mod paragraphs;
 mod part;
 mod rows;
 mod tables;
+mod tell_changes;
 mod waited;
 mod waits;
 
@@ -22,3 +23,4 @@ pub use merge_from::{ArchList, MergeFrom, check_archs};
 pub use paragraphs::ReadParagraphs;
 pub use part::merge_part;
 pub use tables::MergeTables;
+pub use tell_changes::TellChanges;

@@ -2,6 +2,7 @@
 ghost use Rattle.std.specs.Prelude.{◌≡◌, ◌++◌, ℕ, List, [], ◌∷◌, None, Some, IfOk, OnOk};
 ghost use Rattle.std.specs.List.{AllByRecursion};
 ghost use Rattle.deb_relations.specs.declared.arch.ArchWords.{ArchWords};
+ghost use Rattle.wb_merge.specs.Changes.{NotesChanges};
 ghost use Rattle.wb_states.specs.Machine.{Machine};
 ghost use Rattle.wb_states.specs.declared.reply.PartEnd.TheVariants.{Refused};
 ghost use Rattle.wb_archive.specs.Faults.{Advances, StopsAs, refusal_of};
@@ -17,6 +18,7 @@ use crate::{MergeTables, ReadParagraphs};
 use deb_relations::ArchWords;
 use deb_text::Text;
 use std::alloc::{AllocError, Global};
+use wb_merge::ArchChanges;
 use wb_states::{OsCpu, PartEnd, PartReply, Refusal};
 
 /// A part of a merge: an architecture, and the reader of its Packages list.
@@ -79,13 +81,15 @@ fn merge_known<T: MergeTables, R: ReadParagraphs>(
     name: &Text,
     words: &Option<OsCpu>,
     packages: &mut R,
+    notes: &mut Option<Vec<ArchChanges>>,
 ) -> Result<PartEnd, MergeFault<T::Fault>>
     ensures value { (at : Tables) (machine : Machine) (text : List ℕ) (archs : List ArchWords)
         → T.is_clean tables.new → T.holds tables.old at → at.saved ≡ None → at.now.binaries ≡ []
         → IsPartUnread R.may_stand_at machine (record { arch = name.now; words = words.now; packages = packages.old })
         → HasSources text archs at.now.sources bad → AreKnown archs name.now words.now
         → IfOk result (IsPartMerged R.may_stand_at machine (IsGiven (λ _. R.breaks packages.old) machine text bad)
-        (λ records. T.holds tables.new (with_records records at))
+        (λ records. T.holds tables.new (with_records records at)
+        × NotesChanges notes.old notes.new at.now.machine.records records)
         (record { arch = name.now; words = words.now; packages = packages.old }) at.now.machine.records) }
     ensures unread { words.now ≡ None → packages.new ≡ packages.old }
     ensures kind { IfOk result IsPartEnd }
@@ -101,7 +105,7 @@ fn merge_known<T: MergeTables, R: ReadParagraphs>(
     }
     let (os, cpu) = (words.os.as_str(), words.cpu.as_str());
     let arch = ArchWords::new(alloc, name.as_str(), os, cpu)?;
-    merge_part(alloc, tables, &arch, packages)
+    merge_part(alloc, tables, &arch, packages, notes)
 }
 
 /// Merges a part, and says of which architecture it is.
@@ -110,13 +114,16 @@ fn reply_to<T: MergeTables, R: ReadParagraphs>(
     tables: &mut T,
     bad: Option<BadList>,
     part: PartList<R>,
+    notes: &mut Option<Vec<ArchChanges>>,
 ) -> Result<PartReply, MergeFault<T::Fault>>
     ensures value { (at : Tables) (machine : Machine) (text : List ℕ) (archs : List ArchWords)
         → T.is_clean tables.new → T.holds tables.old at → at.saved ≡ None → at.now.binaries ≡ []
         → IsPartUnread R.may_stand_at machine part → HasSources text archs at.now.sources bad
         → AreKnown archs part.arch part.words
         → IfOk result (λ reply. (reply.arch ≡ part.arch) × IsPartMerged R.may_stand_at machine
-        (IsGiven (λ _. R.breaks part.packages) machine text bad) (λ records. T.holds tables.new (with_records records at))
+        (IsGiven (λ _. R.breaks part.packages) machine text bad)
+        (λ records. T.holds tables.new (with_records records at)
+        × NotesChanges notes.old notes.new at.now.machine.records records)
         part at.now.machine.records reply.end) }
     ensures kind { IfOk result (λ reply. IsPartEnd reply.end) }
     ensures calls { Advances T.follows (StopsAs T.follows T.fails) tables.old tables.new result }
@@ -126,7 +133,7 @@ fn reply_to<T: MergeTables, R: ReadParagraphs>(
         words,
         mut packages,
     } = part;
-    let end = merge_known(alloc, tables, bad, &arch, &words, &mut packages)?;
+    let end = merge_known(alloc, tables, bad, &arch, &words, &mut packages, notes)?;
     Ok(PartReply { arch, end })
 }
 
@@ -138,26 +145,29 @@ fn add_reply(replies: &mut Vec<PartReply>, reply: PartReply) -> Result<(), Alloc
     Ok(())
 }
 
-/// Merges the parts in their order.
+/// Merges the parts in their order, and notes what each changes.
 fn merge_parts<T: MergeTables, R: ReadParagraphs>(
     alloc: Global,
     tables: &mut T,
     bad: Option<BadList>,
     parts: Vec<PartList<R>>,
+    notes: &mut Option<Vec<ArchChanges>>,
 ) -> Result<Vec<PartReply>, MergeFault<T::Fault>>
     ensures value { (at : Tables) (machine : Machine) (text : List ℕ) (archs : List ArchWords)
         → T.is_clean tables.new → T.holds tables.old at → at.saved ≡ None → at.now.binaries ≡ []
         → AllByRecursion (IsPartUnread R.may_stand_at machine) parts.items
         → HasSources text archs at.now.sources bad → AreAllKnown archs parts.items
         → IfOk result (λ replies. IsMergeOfParts R.may_stand_at machine
-        (IsGiven (BreaksFor R.breaks parts.items) machine text bad) (λ records. T.holds tables.new (with_records records at))
+        (IsGiven (BreaksFor R.breaks parts.items) machine text bad)
+        (λ records. T.holds tables.new (with_records records at)
+        × NotesChanges notes.old notes.new at.now.machine.records records)
         parts.items at.now.machine.records replies.items) }
     ensures kinds { IfOk result (λ replies. AllByRecursion (λ reply. IsPartEnd reply.end) replies.items) }
     ensures calls { Advances T.follows (StopsAs T.follows T.fails) tables.old tables.new result }
 {
     let mut replies = Vec::new(alloc);
     for part in parts {
-        let reply = reply_to(alloc, tables, bad, part)?;
+        let reply = reply_to(alloc, tables, bad, part, notes)?;
         add_reply(&mut replies, reply)?;
     }
     Ok(replies)
@@ -175,7 +185,8 @@ fn clear_all<T: MergeTables>(tables: &mut T) -> Result<(), MergeFault<T::Fault>>
 /// Merges an archive's lists, of which no paragraph was read before, into the records of the tables, paragraph by
 /// paragraph: Sources is read once, into its table, and then each part in its order, within a savepoint of its own. A
 /// part whose architecture was never added is not read and is refused with `UnknownArch`; one whose list is refused, or
-/// each other if Sources is, changes nothing and says why. In the end no row of the lists is left and no savepoint. The errors
+/// each other if Sources is, changes nothing and says why. In the end no row of the lists is left and no savepoint. What each
+/// part that is merged changes is noted after what `notes` has, if changes are noted: nothing else rests on it. The errors
 /// are `Memory` if memory ran out, or if a list has 2^63 - 1 paragraphs or more, which cannot all be numbered, and else
 /// the first fault of the tables; the caller then takes its transaction back (this project's own).
 pub fn merge_lists<T: MergeTables, R: ReadParagraphs>(
@@ -183,18 +194,20 @@ pub fn merge_lists<T: MergeTables, R: ReadParagraphs>(
     tables: &mut T,
     sources: &mut R,
     parts: Vec<PartList<R>>,
+    notes: &mut Option<Vec<ArchChanges>>,
 ) -> Result<Vec<PartReply>, MergeFault<T::Fault>>
     ensures value { (at : Tables) (machine : Machine) → T.is_clean tables.new → T.holds tables.old at
         → at.saved ≡ None → at.now.sources ≡ [] → at.now.binaries ≡ []
         → IsUnread R.may_stand_at sources.old → AllByRecursion (IsPartUnread R.may_stand_at machine) parts.items
         → IfOk result (λ replies. IsMergeOfLists R.may_stand_at R.breaks machine
-        (λ records. T.holds tables.new (with_records records at)) sources.old parts.items at.now.machine.records replies.items) }
+        (λ records. T.holds tables.new (with_records records at)
+        × NotesChanges notes.old notes.new at.now.machine.records records) sources.old parts.items at.now.machine.records replies.items) }
     ensures kinds { IfOk result (λ replies. AllByRecursion (λ reply. IsPartEnd reply.end) replies.items) }
     ensures calls { Advances T.follows (StopsAs T.follows T.fails) tables.old tables.new result }
 {
     let archs = archs_of_parts(alloc, &parts)?;
     let bad = fill_sources(alloc, tables, &archs, sources)?;
-    let replies = merge_parts(alloc, tables, bad, parts)?;
+    let replies = merge_parts(alloc, tables, bad, parts, notes)?;
     clear_all(tables)?;
     Ok(replies)
 }

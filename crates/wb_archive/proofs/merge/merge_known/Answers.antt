@@ -6,7 +6,9 @@ use Rattle.deb_text.specs.Lists.{IsIn}
 use Rattle.wb_states.specs.declared.command.Part.{Part}
 use Rattle.wb_states.specs.declared.reply.PartEnd.{PartEnd}
 use Rattle.wb_states.specs.Machine.{with_words}
+use Rattle.wb_merge.specs.Changes.{NotesChanges}
 use Rattle.wb_merge.specs.Merged.{Records}
+use Rattle.wb_merge.proofs.ChangeLemmas.{notes-itself}
 use Rattle.wb_archive.specs.Fills.{sources_wanted}
 use Rattle.wb_archive.specs.Parts.{IsListing, IsPartDone}
 use Rattle.wb_archive.specs.Tables.{with_records}
@@ -23,9 +25,11 @@ returns-in_default-clause-value g c = λ at machine text archs clean holds unsav
     record {
       of = of;
       is = record { arch = refl; words = unread.words; begins = list.1.1 };
-      done = part-unknown (λ _. g.R.ReadParagraphs.breaks c.args.packages.now) (λ (records : Records). g.T.MergeTables.holds c.args.tables.now (with_records records at)) machine text
+      done = part-unknown (λ _. g.R.ReadParagraphs.breaks c.args.packages.now)
+          (λ (records : Records). g.T.MergeTables.holds c.args.tables.now (with_records records at)
+          × NotesChanges c.args.notes.now c.args.notes.now at.now.machine.records records) machine text
           c.args.bad of at.now.machine.records
-          (sym unread.words ∙ c.in_default.is) holds;
+          (sym unread.words ∙ c.in_default.is) (holds, notes-itself c.args.notes.now at.now.machine.records);
     }
 
 pub returns-in-Some-bad-clause-value : goal.returns-in-Some-bad-clause-value
@@ -38,8 +42,11 @@ returns-in-Some-bad-clause-value g c = λ at machine text archs clean holds unsa
       of = of;
       is = record { arch = refl; words = unread.words; begins = list.1.1 };
       done = part-without-sources (λ _. g.R.ReadParagraphs.breaks c.args.packages.now)
-          (λ (records : Records). g.T.MergeTables.holds c.args.tables.now (with_records records at)) machine text of
-          c.in-Some.words at.now.machine.records c.args.bad c.in-Some-bad.bad c.refused.result c.in-Some-bad.is (sym unread.words ∙ c.in-Some.is) c.refused.ensures.value holds;
+          (λ (records : Records). g.T.MergeTables.holds c.args.tables.now (with_records records at)
+          × NotesChanges c.args.notes.now c.args.notes.now at.now.machine.records records) machine text of
+          c.in-Some.words at.now.machine.records c.args.bad c.in-Some-bad.bad c.refused.result c.in-Some-bad.is
+          (sym unread.words ∙ c.in-Some.is) c.refused.ensures.value
+          (holds, notes-itself c.args.notes.now at.now.machine.records);
     }
 
 pub returns-clause-value : goal.returns-clause-value
@@ -57,12 +64,15 @@ returns-clause-value g c = λ at machine text archs clean holds unsaved empty un
       of = of;
       is = record { arch = refl; words = unread.words; begins = list.1.1 };
       done = part-with-sources (λ _. g.R.ReadParagraphs.breaks c.args.packages.now)
-          (λ (records : Records). g.T.MergeTables.holds c.merge_part.new.tables (with_records records at))
+          (λ (records : Records). g.T.MergeTables.holds c.merge_part.new.tables (with_records records at)
+          × NotesChanges c.args.notes.now c.merge_part.new.notes at.now.machine.records records)
           machine text of c.in-Some.words at.now.machine.records c.args.bad read.0 end c.in_default-bad.is (sym unread.words ∙ c.in-Some.is) read.1.0
           (subst (λ (a : ArchWords). IsPartDone (IsListing (g.R.ReadParagraphs.breaks c.args.packages.now) a read.0 (begun (paragraphs_in (lines_of list.0))))
-          (λ records. g.T.MergeTables.holds c.merge_part.new.tables (with_records records at)) at.now.machine.records a.name end) arch_is
+          (λ (records : Records). g.T.MergeTables.holds c.merge_part.new.tables (with_records records at)
+          × NotesChanges c.args.notes.now c.merge_part.new.notes at.now.machine.records records) at.now.machine.records a.name end) arch_is
           (subst (λ place. IsPartDone (IsListing (g.R.ReadParagraphs.breaks c.args.packages.now) c.in_ok-arch.arch read.0 place)
-          (λ records. g.T.MergeTables.holds c.merge_part.new.tables (with_records records at)) at.now.machine.records c.in_ok-arch.arch.name end) list.1.0 done.1.1));
+          (λ (records : Records). g.T.MergeTables.holds c.merge_part.new.tables (with_records records at)
+          × NotesChanges c.args.notes.now c.merge_part.new.notes at.now.machine.records records) at.now.machine.records c.in_ok-arch.arch.name end) list.1.0 done.1.1));
     })
     (c.merge_part.ensures.value at archs read.0 clean holds first unsaved empty read.1.1
     (subst (λ (a : ArchWords). IsIn a archs) (sym arch_is) (known c.in-Some.words c.in-Some.is)))

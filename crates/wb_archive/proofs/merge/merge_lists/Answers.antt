@@ -29,7 +29,8 @@ returns-clause-value g c = λ at machine clean holds unsaved no_sources no_binar
     list.1.0 filled.1.1) in
     let merged = c.in_ok-replies.ensures.value (with_sources read.0 at) machine text c.deref-2.result.now at_parts read.1.0 unsaved no_binaries parts_unread read.1.1.0 known in
     let parts = merged.done in
-    let cleared = c.in_ok-clear_all.ensures.value (with_records parts.last (with_sources read.0 at)) clean parts.holds in
+    let cleared = c.in_ok-clear_all.ensures.value (with_records parts.last
+    (with_sources read.0 at)) clean parts.holds.0 in
     let as_was : record { now = record { machine = record at.now.machine { records = parts.last }; sources = []; binaries = [] }; saved = at.saved } ≡ with_records parts.last at =
     λ i. record { now = record { machine = record at.now.machine { records = parts.last }; sources = sym no_sources i; binaries = sym no_binaries i }; saved = at.saved } in
     record {
@@ -43,7 +44,7 @@ returns-clause-value g c = λ at machine clean holds unsaved no_sources no_binar
         done = record {
           last = parts.last;
           done = parts.done;
-          holds = subst (λ (t : Tables). g.T.MergeTables.holds c.clear_all.new.tables t) as_was cleared;
+          holds = (subst (λ (t : Tables). g.T.MergeTables.holds c.clear_all.new.tables t) as_was cleared, parts.holds.1);
         };
       };
     }

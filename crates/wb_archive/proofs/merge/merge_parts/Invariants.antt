@@ -2,6 +2,7 @@ use Rattle.std.proofs.Common.{◌≡◌, ℕ, List, [], None}
 use Rattle.std.specs.List.{AllByRecursion}
 use Rattle.deb_relations.specs.declared.arch.ArchWords.{ArchWords}
 use Rattle.wb_states.specs.Machine.{Machine}
+use Rattle.wb_merge.specs.Changes.{NotesChanges}
 use Rattle.wb_archive.specs.Merges.{BreaksFor, IsGiven, IsPartUnread}
 use Rattle.wb_archive.specs.Parts.{IsPartEnd}
 use Rattle.wb_archive.specs.Sources.{AreAllKnown, HasSources}
@@ -17,5 +18,6 @@ invariant-loop-part g l = record {
       → at.saved ≡ None → at.now.binaries ≡ [] → AllByRecursion (IsPartUnread g.R.ReadParagraphs.may_stand_at machine) l.fn.parts.items
       → HasSources text archs at.now.sources l.bad → AreAllKnown archs l.fn.parts.items
       → IsHalfMerged g.R.ReadParagraphs.may_stand_at machine archs (IsGiven (BreaksFor g.R.ReadParagraphs.breaks l.fn.parts.items) machine text l.bad)
-      (λ records. g.T.MergeTables.holds l.tables (with_records records at)) l.fn.parts.items at.now.machine.records l.replies.items l.part-iterator.rest.items;
+      (λ records. g.T.MergeTables.holds l.tables (with_records records at)
+      × NotesChanges l.fn.notes l.notes at.now.machine.records records) l.fn.parts.items at.now.machine.records l.replies.items l.part-iterator.rest.items;
 }
