@@ -1,5 +1,6 @@
 -- What an office over tables answers to a query, and how it stands then.
-use Rattle.std.proofs.Common.{◌≡◌, ◌≢◌, inl, inr, true, false, not, cond, Bool, ℕ, List, map as each, Option, None, Some, is_some}
+use Rattle.std.proofs.Common.{◌≡◌, ◌≢◌, inl, inr, true, false, not, cond, Bool, ℕ, List, map as each, Option, None}
+use Rattle.std.proofs.Common.{Some, is_some}
 use Rattle.std.specs.Option.{option_and_then, option_map}
 use Rattle.std.proofs.Common.{Result, Ok, Err, IfOk, IfErr, refl, sym, ap, subst, ◌∙◌}
 use Rattle.std.proofs.lemmas.Bool.{both_ways}

@@ -14,7 +14,8 @@ use Rattle.wb_store.specs.Files.{LeaveOffice}
 use Rattle.wb_office.specs.declared.history.Found.{Found}
 use Rattle.wb_office.specs.declared.history.Found.TheVariants.{Opened, Refused}
 use Rattle.wb_office.specs.Files.{Ends, IsFaultOfLife, IsFound, IsLife}
-use Rattle.wb_office.specs.History.{AreLived, AreLivedInTurn, Course, HasLived, IsCleanLast, IsCut, IsFoundAfter, IsLivedOnce, Last, Given, Unclosed, Unopened, onward, reached}
+use Rattle.wb_office.specs.History.{AreLived, AreLivedInTurn, Course, HasLived, IsCleanLast, IsCut, IsFoundAfter}
+use Rattle.wb_office.specs.History.{IsLivedOnce, Last, Given, Unclosed, Unopened, onward, reached}
 use Rattle.wb_office.specs.Lives.{Outcome}
 use Rattle.wb_office.proofs.SessionLemmas.{holds_after, life_keeps, replay_append, unclosed_after}
 

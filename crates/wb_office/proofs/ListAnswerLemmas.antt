@@ -1,10 +1,11 @@
 -- What is answered to a merge of lists that readers give, from what a merge of feeds in a transaction makes.
-use Rattle.std.proofs.Common.{◌≡◌, ◌⊎◌, ◌∙◌, refl, sym, ap, subst, inl, inr, ℕ, ◌+◌, Bool, true, false, not, nat_le, List, Option, Some, None, Result, Ok, Err, Vec}
+use Rattle.std.proofs.Common.{◌≡◌, ◌⊎◌, ◌∙◌, refl, sym, ap, subst, inl, inr, ℕ, ◌+◌, Bool, true, false, not, nat_le}
+use Rattle.std.proofs.Common.{List, Option, Some, None, Result, Ok, Err, Vec}
 use Rattle.std.proofs.lemmas.Bool.{both_ways}
 use Rattle.std.specs.List.{AllZip}
 use Rattle.sqlite_trees.specs.declared.store.Store.{Ghosts}
 use Rattle.sqlite.specs.Held.{Held, state}
-use Rattle.sqlite.specs.State.{State}
+use Rattle.sqlite.specs.State.{HasCleanDisk, State}
 use Rattle.deb_control.specs.Feed.{MayStandAt}
 use Rattle.deb_control.specs.FeedState.{FeedState, fresh}
 use Rattle.wb_states.specs.declared.counts.Counts.{Counts}
@@ -14,7 +15,8 @@ use Rattle.wb_states.specs.declared.reply.PartReply.{PartReply}
 use Rattle.wb_states.specs.declared.reply.Reply.TheVariants.{Merged}
 use Rattle.wb_states.specs.declared.store_fault.StoreFault.{StoreFault}
 use Rattle.wb_states.specs.Limits.{count_limit}
-use Rattle.wb_states.specs.Machine.{Machine}
+use Rattle.wb_states.specs.Machine.{IsConsistent, Machine}
+use Rattle.wb_merge.specs.declared.changes.ArchChanges.{ArchChanges}
 use Rattle.wb_merge.specs.Merged.{Records}
 use Rattle.wb_step.specs.Step.{Outcome}
 use Rattle.wb_archive.specs.declared.merge.PartList.{PartList}
@@ -24,6 +26,7 @@ use Rattle.wb_archive.specs.Readers.{IsFeedOf, IsMergeOf, archs_refusal, merge_o
 use Rattle.wb_archive.proofs.ReaderLemmas.{feeds-merge, feeds-unread}
 use Rattle.wb_store.specs.Finds.{Finds, StaysAs}
 use Rattle.wb_store.specs.Opening.{AreCountsOf}
+use Rattle.wb_store.specs.Settled.{IsSettled}
 use Rattle.wb_store.proofs.OthersLemmas.{others_then}
 use Rattle.wb_store.proofs.StaysLemmas.{was_clean}
 use Rattle.wb_office.specs.declared.answer.Failure.{Failure}
@@ -32,9 +35,10 @@ use Rattle.wb_office.specs.declared.carry.CarryError.{CarryError}
 use Rattle.wb_office.specs.declared.carry.CarryError.TheVariants.{TakenBack, RollBackFailed, InDoubt}
 use Rattle.wb_office.specs.declared.known.Known.{Known}
 use Rattle.wb_office.specs.Answers.{merged_answer}
-use Rattle.wb_office.specs.ListAnswers.{AreListsLeft, ListsLeaveAs, RespondsLists}
+use Rattle.wb_office.specs.ListAnswers.{AreListsLeft, ListsLeaveAs, NotesLists, RespondsLists}
 use Rattle.wb_office.specs.MergeCarried.{CarriesLists, IsNotMerged, MergeLeavesAs}
-use Rattle.wb_office.specs.MergeLists.{AreListsDone, AreListsToRead, IsAcceptedMerge, IsRefusedMerge, counted, merged_office}
+use Rattle.wb_office.specs.MergeLists.{AreListsDone, AreListsNoted, AreListsToRead, IsAcceptedMerge, IsRefusedMerge}
+use Rattle.wb_office.specs.MergeLists.{counted, merged_office}
 use Rattle.wb_office.specs.Standing.{Knows}
 use Rattle.wb_office.proofs.AnswerLemmas.{found, not_found, stays_others}
 
@@ -180,6 +184,32 @@ module _ {S R : Type 0} (g : Ghosts S) (remaining : R → Option (List ℕ)) (so
             (carries.others clean machine at.0 (feeds_ready remaining sources lists feeds machine (are machine at.1 was)));
         of_step = tt;
       }
+
+      -- and what it changed is noted
+      pub lists_noted : {X Y : Type 0} (was_noted noted : Option (Vec ArchChanges Y)) (replies : Vec PartReply X) (known : Known)
+          → CarriesLists g (AreListsToRead MayStandAt feed feeds)
+          (AreListsNoted MayStandAt IsFeedBreak feed feeds was_noted noted) mid_known.counts mid new (Ok replies)
+          → ((machine after : Machine) → Knows machine mid_known → after.archs ≡ machine.archs
+          → AreCountsOf after (counted mid_known.counts) → Knows after known)
+          → HasCleanDisk (state g new) → (machine : Machine) → IsConsistent machine → IsSettled machine (state g old)
+          → Knows machine was_known
+          → NotesLists g remaining sources lists machine known was_noted noted new (merged_answer mid_known.counts replies.items).reply
+      lists_noted {X = X} {Y = Y} was_noted noted replies known one takes_over clean machine consistent settled known_before =
+          let carries = subst (λ (f : FeedState). CarriesLists {X = X} g (AreListsToRead MayStandAt f feeds)
+          (AreListsNoted {X = Y} MayStandAt IsFeedBreak f feeds was_noted noted) mid_known.counts mid new (Ok replies)) begins one in
+          let at = found g old mid finds (carries.was_clean clean) consistent settled in
+          let zip = are machine at.1 known_before in
+          let knows = learns machine at.1 known_before in
+          let made = carries.ok clean machine at.0 (feeds_ready remaining sources lists feeds machine zip) in record {
+            merged = record {
+              after = merged_office mid_known.counts made.last machine;
+              is = merge_accepted remaining sources lists feeds machine zip names mid_known.counts knows.counts
+                  (record { done = made.accepted.done.0; good = made.accepted.good; room = made.accepted.room });
+              settled = made.settled;
+              knows = takes_over machine (merged_office mid_known.counts made.last machine) knows refl (refl, refl);
+            };
+            notes = made.accepted.done.1;
+          }
 
       -- one that is not
       pub lists_not_kept : {X : Type 0} (failure : Failure) → Carried {X = X} (Err failure)

@@ -1,6 +1,6 @@
 -- What an office answers to a merge of lists that readers give, and how it stands then.
 use Rattle.std.proofs.Common.{◌≡◌, ◌≢◌, ◌∙◌, refl, sym, ap, subst, inl, inr, ℕ, Bool, true, false, List, [], ◌∷◌}
-use Rattle.std.proofs.Common.{Option, Some, None, Result, Ok, Err, IsTrue, IfOk, IfErr}
+use Rattle.std.proofs.Common.{Option, Some, None, Result, Ok, Err, Vec, IsTrue, IfOk, IfErr, IfSome}
 use Rattle.std.proofs.lemmas.Bool.{both_ways}
 use Rattle.std.proofs.lemmas.Result.{IfOk-weaker}
 use Rattle.std.specs.List.{AllZip}
@@ -20,6 +20,8 @@ use Rattle.wb_states.specs.declared.store_fault.StoreFault.{StoreFault}
 use Rattle.wb_states.specs.Forms.{Merge}
 use Rattle.wb_states.specs.Machine.{Machine, IsConsistent}
 use Rattle.wb_states.specs.Refusals.{IsOfMachine, is_of_store}
+use Rattle.wb_merge.specs.declared.changes.ArchChanges.{ArchChanges}
+use Rattle.wb_merge.proofs.ChangeLemmas.{notes-made}
 use Rattle.wb_step.specs.Checks.{when}
 use Rattle.wb_step.specs.Step.{Outcome}
 use Rattle.wb_step.proofs.InvariantLemmas.{step-keeps}
@@ -29,7 +31,7 @@ use Rattle.wb_archive.specs.Feeds.{IsFeedBreak}
 use Rattle.wb_archive.specs.Readers.{IsFeedOf, IsListOf, IsMergeOf, IsPartReadFault, IsReadFault, MayLeave}
 use Rattle.wb_archive.specs.Readers.{archs_refusal, has_bad_arch, has_repeated_arch}
 use Rattle.wb_archive.proofs.ReaderLemmas.{names-refused, texts-more, texts-step}
-use Rattle.wb_store.specs.Settled.{IsBackAt, LeavesEither}
+use Rattle.wb_store.specs.Settled.{IsBackAt, IsSettled, LeavesEither}
 use Rattle.wb_store.proofs.SettledLemmas.{settled_back}
 use Rattle.wb_office.specs.declared.answer.Failure.{Failure}
 use Rattle.wb_office.specs.declared.answer.Failure.TheVariants.{Refused, Unread, Uncommitted}
@@ -37,9 +39,9 @@ use Rattle.wb_office.specs.declared.carry.CarryError.{CarryError}
 use Rattle.wb_office.specs.declared.carry.CarryError.TheVariants.{TakenBack, RollBackFailed, InDoubt}
 use Rattle.wb_office.specs.declared.known.Known.{Known}
 use Rattle.wb_office.specs.Applies.{CannotGoOn, Ends, refusal_for}
-use Rattle.wb_office.specs.AppliesLists.{AppliesLists, AreListsApplied, AreListsRefused}
+use Rattle.wb_office.specs.AppliesLists.{AppliesLists, AreListsApplied, AreListsRefused, HasListsNoted}
 use Rattle.wb_office.specs.Failed.{HasFailed}
-use Rattle.wb_office.specs.ListAnswers.{AreListsLeft, ListsLeaveAs, RespondsLists}
+use Rattle.wb_office.specs.ListAnswers.{AreListsLeft, ListsLeaveAs, NotesLists, RespondsLists}
 use Rattle.wb_office.specs.MergeLists.{AreListsDone}
 use Rattle.wb_office.specs.Standing.{Knows, LeavesOne, StandsAt}
 use Rattle.wb_office.proofs.ApplyLemmas.{at_err, either_of, if_err, merge_not_taken_back, must_not_go_on, none_opens}
@@ -186,6 +188,30 @@ module _ {S R : Type 0} (g : Ghosts S) (remaining : R → Option (List ℕ)) (so
       refused = λ clean machine stands _. tt;
       cause = λ clean machine stands _. tt;
     }
+
+    -- and what it changed is known, if it was noted
+    pub lists_applied_noted : {X : Type 0} (start noted : Option (Vec ArchChanges X)) (new : Held S) (known : Known)
+        (reply : Reply) → IfSome start (λ begun. begun.items ≡ [])
+        → (HasCleanDisk (state g new) → (machine : Machine) → IsConsistent machine → IsSettled machine (state g old)
+        → Knows machine was_known → NotesLists g remaining sources lists machine known start noted new reply)
+        → HasCleanDisk (state g new) → (machine : Machine) → StandsAt machine was_closed was_known (state g old)
+        → HasListsNoted g remaining sources lists machine was_closed known noted new reply
+    lists_applied_noted start noted new known reply begun responds clean machine stands =
+        let told = responds clean machine stands.consistent (settled_at stands opened) stands.knows in
+        record {
+          applied = record {
+            after = told.merged.after;
+            is = told.merged.is;
+            stands = record {
+              consistent = merge_keeps stands.consistent told.merged.is;
+              knows = told.merged.knows;
+              back = settled_back (state g new) told.merged.settled;
+              is_open = λ _. told.merged.settled.is_open;
+            };
+            opened = opened;
+          };
+          are = notes-made start noted machine.records told.merged.after.records begun told.notes;
+        }
 
     -- after a failure the office is left as the end of it says
     pub lists_not_applied : (at new : Held S) (is_closed : Bool) (known : Known) (failure : Failure) (refusal : Refusal)

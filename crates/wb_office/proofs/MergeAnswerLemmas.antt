@@ -1,10 +1,11 @@
 -- What is answered to a merge of lists in memory, from what a merge of lists in a transaction makes.
-use Rattle.std.proofs.Common.{◌≡◌, ◌⊎◌, ◌∙◌, refl, sym, ap, subst, inl, inr, ℕ, ◌+◌, Bool, true, false, nat_le, List, [], ◌∷◌, Option, Some, None, Ok, Err, Vec}
+use Rattle.std.proofs.Common.{◌≡◌, ◌⊎◌, ◌∙◌, refl, sym, ap, subst, inl, inr, ℕ, ◌+◌, Bool, true, false, nat_le, List}
+use Rattle.std.proofs.Common.{[], ◌∷◌, Option, Some, None, Result, Ok, Err, Vec}
 use Rattle.std.specs.List.{AllZip}
 use Rattle.std.specs.FinMap as map
 use Rattle.sqlite_trees.specs.declared.store.Store.{Ghosts}
 use Rattle.sqlite.specs.Held.{Held, state}
-use Rattle.sqlite.specs.State.{State}
+use Rattle.sqlite.specs.State.{HasCleanDisk, State}
 use Rattle.deb_control.specs.declared.fault.ControlFault.{ControlFault}
 use Rattle.deb_control.specs.Lines.{lines_of, paragraphs_in}
 use Rattle.deb_control.specs.Paragraphs.{ReaderState, begun}
@@ -22,6 +23,8 @@ use Rattle.wb_states.specs.declared.reply.Reply.TheVariants.{Merged}
 use Rattle.wb_states.specs.declared.store_fault.StoreFault.{StoreFault}
 use Rattle.wb_states.specs.Limits.{count_limit}
 use Rattle.wb_states.specs.Machine.{Machine}
+use Rattle.wb_merge.specs.declared.changes.ArchChanges.{ArchChanges}
+use Rattle.wb_merge.specs.Changes.{NotesChanges}
 use Rattle.wb_merge.specs.Merged.{Records}
 use Rattle.wb_step.specs.Checks.{first_refusal, text_checks, text_refusal, when}
 use Rattle.wb_step.specs.Parts.{parts_refusal}
@@ -36,6 +39,7 @@ use Rattle.wb_archive.specs.Readers.{refusal_by}
 use Rattle.wb_archive.proofs.KnownListLemmas.{begins-unread, merge-known, parts-unread}
 use Rattle.wb_archive.proofs.MergeLemmas.{parts-are}
 use Rattle.wb_archive.proofs.ReaderLemmas.{refusal_by-parts}
+use Rattle.wb_archive.proofs.StopLemmas.{if-err-map, if-ok-map}
 use Rattle.wb_store.specs.Opening.{AreCountsOf}
 use Rattle.wb_store.specs.Settled.{IsSettled, LeavesEither}
 use Rattle.wb_office.specs.declared.answer.Failure.{Failure}
@@ -44,14 +48,16 @@ use Rattle.wb_office.specs.declared.carry.CarryError.{CarryError}
 use Rattle.wb_office.specs.declared.carry.CarryError.TheVariants.{TakenBack, RollBackFailed, InDoubt}
 use Rattle.wb_office.specs.Answers.{Answers, AreOf, IsLeft, merged_answer}
 use Rattle.wb_office.specs.Carried.{LeavesAs}
-use Rattle.wb_office.specs.MergeCarried.{CarriesLists, FailsAsMerge, FailsAtMergeCommit, IsNotMerged, IsCarriedMerge, MergeEndsFor, MergeLeavesAs}
-use Rattle.wb_office.specs.MergeLists.{AreListsDone, AreListsToRead, AreTextsDone, IsAcceptedMerge, IsMergedIn, IsRefusedMerge, merged_office}
+use Rattle.wb_office.specs.MergeCarried.{CarriesLists, FailsAsMerge, FailsAtMergeCommit, IsNotMerged, IsCarriedMerge}
+use Rattle.wb_office.specs.MergeCarried.{MergeEndsFor, MergeLeavesAs}
+use Rattle.wb_office.specs.MergeLists.{AreListsDone, AreListsNoted, AreListsToRead, AreTextsDone, IsAcceptedMerge}
+use Rattle.wb_office.specs.MergeLists.{IsMergedIn, IsRefusedMerge, merged_office}
 use Rattle.wb_office.specs.PartLists.{Stands}
 
 -- ---- lists in memory
 
 -- a reader of a text in memory never breaks
-abbrev NeverBreaks : ReaderState → ControlFault → Type 0
+abbrev pub NeverBreaks : ReaderState → ControlFault → Type 0
 NeverBreaks reader fault = ⊥
 
 module _ (sources : ReaderState) (lists : List (PartList ReaderState)) (text : List ℕ) (parts : List Part) (machine : Machine)
@@ -109,6 +115,26 @@ module _ {S : Type 0} (g : Ghosts S) (Done Is : Machine → List PartReply → R
   not_merged_as old new (Refused refusal) one = (refused_as one.0, one.1)
   not_merged_as old new (Unread fault) one = absurd one
   not_merged_as old new (Uncommitted failure) one = (leaves_as (state g new) failure one.0, ends_as old new failure one.1)
+
+-- a merge that was carried out, or was not, of which more is known
+pub carries_as : {S X : Type 0} (g : Ghosts S) (Ready : Machine → Type 0)
+    (Done Is : Machine → List PartReply → Records → Type 0) (counts : Counts) (old new : Held S)
+    (result : Result (Vec PartReply X) Failure)
+    → ((machine : Machine) (replies : List PartReply) (last : Records) → Done machine replies last → Is machine replies last)
+    → CarriesLists g Ready Done counts old new result → CarriesLists g Ready Is counts old new result
+carries_as {X = X} g Ready Done Is counts old new result gives carries = record {
+  was_clean = carries.was_clean;
+  limit = carries.limit;
+  room = carries.room;
+  ok = λ clean machine settled ready.
+      if-ok-map _ _ result (λ (replies : Vec PartReply X) one. carried_as g Done Is counts machine (gives machine) one)
+      (carries.ok clean machine settled ready);
+  err = λ clean machine settled ready.
+      if-err-map _ _ result (λ (failure : Failure) one. not_merged_as g Done Is counts machine (gives machine) old new failure one)
+      (carries.err clean machine settled ready);
+  others = carries.others;
+  of_step = carries.of_step;
+}
 
 -- ---- the step of a merge
 
@@ -172,6 +198,23 @@ module _ {S X : Type 0} (g : Ghosts S) (counts : Counts) (archs : List (List ℕ
     of_step = tt;
     utf8 = tt;
   }
+
+  -- and what it changed is noted
+  pub merge_noted : {Y : Type 0} (was notes : Option (Vec ArchChanges Y)) (replies : Vec PartReply X)
+      → CarriesLists g (AreListsToRead Stands sources lists) (AreListsNoted Stands NeverBreaks sources lists was notes) counts
+      old new (Ok replies) → HasCleanDisk (state g new) → (machine : Machine) → IsSettled machine (state g old)
+      → AreOf counts archs machine
+      → NotesChanges was notes machine.records (step machine (of.Merge merge)).1.records
+  unfolding carried_as
+  merge_noted was notes replies carries clean machine settled given =
+      let zip = are machine given.1 in
+      let made = carries.ok clean machine settled (texts_to_read sources lists merge.sources merge.parts machine is zip) in
+      let texts_made = carried_as g (AreListsNoted Stands NeverBreaks sources lists was notes)
+      (AreTextsDone merge.sources merge.parts) counts machine
+      (λ replies last done. texts_done sources lists merge.sources merge.parts machine is zip replies last done.0) made in
+      subst (NotesChanges was notes machine.records)
+      (sym (ap (λ (o : Outcome). o.1.records) (step_is merge texts machine counts given.0 texts_made.accepted)))
+      made.accepted.done.1
 
   -- one that is not
   pub merge_not_kept : (failure : Failure) → CarriesLists {X = X} g (AreListsToRead Stands sources lists) (AreListsDone Stands NeverBreaks sources lists) counts old new (Err failure)

@@ -1,5 +1,6 @@
 -- How the transaction of a merge of lists, begun, written and ended, carries it out.
-use Rattle.std.proofs.Common.{◌≡◌, ◌∙◌, false, inl, inr, refl, sym, ap, subst, arith, Result, Ok, Err, OnOk, IfErr, List, Vec}
+use Rattle.std.proofs.Common.{◌≡◌, ◌∙◌, false, inl, inr, refl, sym, ap, subst, arith, Result, Ok, Err, OnOk, IfErr}
+use Rattle.std.proofs.Common.{List, Vec}
 use Rattle.sqlite_trees.specs.declared.store.Store.{Ghosts}
 use Rattle.sqlite.specs.Effect.{Database}
 use Rattle.sqlite.specs.Held.{Held, state}
@@ -28,7 +29,8 @@ use Rattle.wb_office.specs.declared.merge_lists.Stop.TheVariants.{Failed, Refuse
 use Rattle.wb_office.specs.Carried.{failure_of}
 use Rattle.wb_office.specs.Kinds.{IsOfStep}
 use Rattle.wb_office.specs.MergeCarried.{CarriesLists, EndsStopped, FailsAsMerge, FailsAtMergeCommit, IsNotMerged}
-use Rattle.wb_office.specs.MergeLists.{FailsToMerge, IfFailed, IfRefused, IsMergedIn, IsRefusedMerge, MergesLists, merged_office}
+use Rattle.wb_office.specs.MergeLists.{FailsToMerge, IfFailed, IfRefused, IsMergedIn, IsRefusedMerge, MergesLists}
+use Rattle.wb_office.specs.MergeLists.{merged_office}
 
 -- ---- a connection whose transaction is over
 

@@ -1,5 +1,6 @@
 -- How a merge of lists is made in a transaction of the office, and how it stops.
-use Rattle.std.proofs.Common.{◌≡◌, ◌≤◌, ◌+◌, Bool, true, false, cond, List, [], ◌∷◌, None, Some, inl, inr, Result, Ok, Err, IsTrue, Vec, nat_le, refl, sym, ap, subst, ◌∙◌}
+use Rattle.std.proofs.Common.{◌≡◌, ◌≤◌, ◌+◌, Bool, true, false, cond, List, [], ◌∷◌, None, Some, inl, inr, Result, Ok}
+use Rattle.std.proofs.Common.{Err, IsTrue, Vec, nat_le, refl, sym, ap, subst, ◌∙◌}
 use Rattle.std.specs.Bool.{⊤}
 use Rattle.std.specs.List.{AllByRecursion, list_any}
 use Rattle.sqlite_trees.specs.declared.store.Store.{Ghosts}
@@ -35,7 +36,8 @@ use Rattle.wb_archive.proofs.EndLemmas.{kinds_of_store}
 use Rattle.wb_store.specs.Calls.{Changes, FailsToLookUp}
 use Rattle.wb_store.specs.Faults.{IsUnfit}
 use Rattle.wb_store.specs.Merging.{Scratch}
-use Rattle.wb_store.specs.MergeRuns.{FailsAtCall, FailsIn, HoldsSome, HoldsTables, IsMerging, RunsOn, RunsTo, scratch_of}
+use Rattle.wb_store.specs.MergeRuns.{FailsAtCall, FailsIn, HoldsSome, HoldsTables, IsMerging, RunsOn, RunsTo}
+use Rattle.wb_store.specs.MergeRuns.{scratch_of}
 use Rattle.wb_store.specs.MergeLaws.{runs_to_then}
 use Rattle.wb_store.specs.Queries.{OfficeQuery}
 use Rattle.wb_store.specs.ScratchLookups as scratch
@@ -47,7 +49,8 @@ use Rattle.wb_store.proofs.SettledLemmas.{office_trees}
 use Rattle.wb_store.proofs.StaysLemmas.{was_clean}
 use Rattle.wb_office.specs.declared.merge_lists.Stop.{Stop}
 use Rattle.wb_office.specs.declared.merge_lists.Stop.TheVariants.{Failed, Refused}
-use Rattle.wb_office.specs.MergeLists.{AreListsDone, AreListsToRead, FailsToMerge, IfFailed, IfRefused, IsLeftWithLists, IsMergedIn, IsRefusedMerge, MergesLists, counted, fault_in}
+use Rattle.wb_office.specs.MergeLists.{AreListsDone, AreListsToRead, FailsToMerge, IfFailed, IfRefused}
+use Rattle.wb_office.specs.MergeLists.{IsLeftWithLists, IsMergedIn, IsRefusedMerge, MergesLists, counted, fault_in}
 use Rattle.wb_office.specs.Turns.{IsNoOffice}
 
 -- ---- before a merge
@@ -182,18 +185,23 @@ set_as g counts after mid new r is =
 
 -- ---- each end of a merge in a transaction
 
-module _ {S R : Type 0} (g : Ghosts S) (MayStand : R → ReaderState → Type 0) (Breaks : R → ControlFault → Type 0) (sources : R) (parts : List (PartList R)) (counts : Counts) (old mid : Held S) (is_saved : Bool)
+module _ {S R : Type 0} (g : Ghosts S) (MayStand : R → ReaderState → Type 0) (Breaks : R → ControlFault → Type 0)
+    (sources : R) (parts : List (PartList R)) (Noted : Records → Records → Type 0) (counts : Counts) (old mid : Held S)
+    (is_saved : Bool)
   where
     abbrev Ready : Machine → Type 0
     Ready = AreListsToRead MayStand sources parts
 
     abbrev Done : Machine → List PartReply → Records → Type 0
-    Done = AreListsDone MayStand Breaks sources parts
+    Done machine replies last =
+        AreListsDone MayStand Breaks sources parts machine replies last × Noted machine.records last
 
     -- what the merge answers of lists that can be read
     abbrev pub Answers : List PartReply → Type 0
     Answers replies = HasCleanDisk (state g mid) → (machine : Machine) → StandsFor machine (state g old).now → Ready machine
-        → IsMergeOfLists MayStand Breaks machine (λ records. HoldsTables is_saved (with_records records (tables_of machine)) (state g mid)) sources parts machine.records replies
+        → IsMergeOfLists MayStand Breaks machine
+        (λ records. HoldsTables is_saved (with_records records (tables_of machine)) (state g mid)
+        × Noted machine.records records) sources parts machine.records replies
 
     module _ (runs : RunsOn g false old is_saved mid) where
       fewer : {machine : Machine} → HasCleanDisk (state g mid) → StandsFor machine (state g old).now → LeavesNoMore (state g old) (state g mid)
@@ -222,7 +230,10 @@ module _ {S R : Type 0} (g : Ghosts S) (MayStand : R → ReaderState → Type 0)
       module _ (replies : List PartReply) (answers : Answers replies) where
         done : (clean : HasCleanDisk (state g mid)) (machine : Machine) (stands : StandsFor machine (state g old).now) (ready : Ready machine)
             → Done machine replies (answers clean machine stands ready).merged.done.last
-        done clean machine stands ready = done_of MayStand Breaks sources parts machine replies (answers clean machine stands ready)
+        done clean machine stands ready = (
+          done_of MayStand Breaks sources parts machine replies (answers clean machine stands ready),
+          (answers clean machine stands ready).merged.done.holds.1,
+        )
 
         -- no part was merged
         pub no_part : {X : Type 0} (refusal : Refusal) → AllByRecursion (λ (reply : PartReply). IsPartEnd reply.end) replies → refusal_by replies ≡ Some refusal
@@ -289,7 +300,7 @@ module _ {S R : Type 0} (g : Ghosts S) (MayStand : R → ReaderState → Type 0)
 
           stands_mid : (clean : HasCleanDisk (state g mid)) (machine : Machine) (stands : StandsFor machine (state g old).now) (ready : Ready machine)
               → StandsFor (record machine { records = (answers clean machine stands ready).merged.done.last }) (state g mid).now
-          stands_mid clean machine stands ready = (answers clean machine stands ready).merged.done.holds.now
+          stands_mid clean machine stands ready = (answers clean machine stands ready).merged.done.holds.0.now
 
           pub merged : {A X : Type 0} {x : A} (made : Vec PartReply X) → made.items ≡ replies → refusal_by replies ≡ None → nat_le count_limit counts.accepted ≡ false → Counts_set (Ok x)
               → MergesLists {X = X} g Ready Done counts old new (Ok made)

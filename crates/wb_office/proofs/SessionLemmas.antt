@@ -1,5 +1,6 @@
 -- What a life of an office leaves of its files, and how it is led from what they held.
-use Rattle.std.proofs.Common.{◌≡◌, ◌⊎◌, ℕ, inl, inr, false, List, [], ◌++◌, Option, None, Some, Result, Ok, Err, IfErr, IfOk, IfSome, IsTrue, refl, sym, ap, subst, ◌∙◌}
+use Rattle.std.proofs.Common.{◌≡◌, ◌⊎◌, ℕ, inl, inr, false, List, [], ◌++◌, Option, None, Some, Result, Ok, Err, IfErr}
+use Rattle.std.proofs.Common.{IfOk, IfSome, IsTrue, refl, sym, ap, subst, ◌∙◌}
 use Rattle.std.proofs.Math.Logic.{∥∥₁_elim, ∥∥₁_map}
 use Rattle.std.proofs.lemmas.Bool.{both_ways}
 use Rattle.std.proofs.lemmas.Grind.{fold-append}
@@ -33,7 +34,9 @@ use Rattle.wb_office.proofs.LifeLemmas.{stands_wider}
 use Rattle.wb_office.proofs.AskedLemmas.{asked_whole}
 use Rattle.wb_office.specs.Asked.{AreAsked, IsLedThrough}
 use Rattle.wb_office.specs.Lives.{Outcome, LeavesStanding, never_fails}
-use Rattle.wb_office.specs.Files.{AreClosedFiles, AreOf, Ends, GivesUp, HasFailedWith, HoldOne, IsEither, IsFaultOfLife, IsFound, IsGivenUp, IsLeftByLife, IsLife, IsOpenOver, IsSureLife, IsUnshown, LeavesLife, LivesFound, LivesOn, IsSession}
+use Rattle.wb_office.specs.Files.{AreClosedFiles, AreOf, Ends, GivesUp, HasFailedWith, HoldOne, IsEither}
+use Rattle.wb_office.specs.Files.{IsFaultOfLife, IsFound, IsGivenUp, IsLeftByLife, IsLife, IsOpenOver, IsSureLife}
+use Rattle.wb_office.specs.Files.{IsUnshown, LeavesLife, LivesFound, LivesOn, IsSession}
 use Rattle.wb_office.specs.Offices.{HasCleanFiles, HasLeftOne, IsAt}
 
 module _ {D : Type 0} (g : Ghosts D) where

@@ -1,5 +1,6 @@
 -- What an accepted step in a part of the office makes of the whole office.
-use Rattle.std.proofs.Common.{ℕ, ◌≡◌, ◌≢◌, ◌∙◌, refl, sym, ap, subst, ◌+◌, Result, false, is_some, cond, Option, Some, None, Ok, option_map, List}
+use Rattle.std.proofs.Common.{ℕ, ◌≡◌, ◌≢◌, ◌∙◌, refl, sym, ap, subst, ◌+◌, Result, false, is_some, cond, Option, Some}
+use Rattle.std.proofs.Common.{None, Ok, option_map, List}
 use Rattle.std.specs.Prelude.{IsSome, option_and_then}
 use Rattle.std.specs.FinMap as map
 use Rattle.std.specs.FinSet as set

@@ -16,7 +16,8 @@ use Rattle.wb_store.specs.Writes.{OfficeWrite}
 use Rattle.wb_store.proofs.SettledLemmas.{not_changed}
 use Rattle.wb_office.specs.Changed.{FailsAtOnce, ComesToStandFor}
 use Rattle.wb_office.specs.Turns.{StopsWith, IsNoOffice, ChangesInTurn}
-use Rattle.wb_office.proofs.WriteLemmas.{becomes_then, if_err, on_err, reached_inside, reached_stands, reached_way, survives_itself}
+use Rattle.wb_office.proofs.WriteLemmas.{becomes_then, if_err, on_err, reached_inside, reached_stands, reached_way}
+use Rattle.wb_office.proofs.WriteLemmas.{survives_itself}
 
 module _ {S : Type 0} (g : Ghosts S) where
   -- ---- what the database comes to

@@ -1,5 +1,6 @@
 -- How the writes of a change, one after the other, are the whole change.
-use Rattle.std.proofs.Common.{◌≡◌, ◌∙◌, ◌⊎◌, inl, inr, refl, sym, ap, subst, arith, ℕ, IsTrue, Result, Ok, Err, OnErr, IfErr, Option, Bool, true, false, ◌↔◌}
+use Rattle.std.proofs.Common.{◌≡◌, ◌∙◌, ◌⊎◌, inl, inr, refl, sym, ap, subst, arith, ℕ, IsTrue, Result, Ok, Err, OnErr}
+use Rattle.std.proofs.Common.{IfErr, Option, Bool, true, false, ◌↔◌}
 use Rattle.std.specs.Prelude.{⊤}
 use Rattle.sqlite_trees.specs.declared.store.Store.{Ghosts}
 use Rattle.sqlite.specs.Effect.{Database}

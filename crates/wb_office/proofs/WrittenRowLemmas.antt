@@ -1,5 +1,6 @@
 -- Records that are written to the tables one after another.
-use Rattle.std.proofs.Common.{◌≡◌, ◌∙◌, ℕ, ◌+◌, zero, suc, inl, inr, ◌<◌, ◌≤◌, List, [], ◌∷◌, map as each, length, get_or, drop, drop-cons, Result, Ok, Err, sym, ap, subst, arith}
+use Rattle.std.proofs.Common.{◌≡◌, ◌∙◌, ℕ, ◌+◌, zero, suc, inl, inr, ◌<◌, ◌≤◌, List, [], ◌∷◌, map as each, length}
+use Rattle.std.proofs.Common.{get_or, drop, drop-cons, Result, Ok, Err, sym, ap, subst, arith}
 use Rattle.std.proofs.lemmas.List.{drop_all}
 use Rattle.std.specs.FinMap as map
 use Rattle.std.specs.Prelude.{⊤}

@@ -1,5 +1,6 @@
 -- What an office over tables answers to a merge of lists that readers give, and how it stands then.
-use Rattle.std.specs.Prelude.{◌≡◌, ◌≢◌, Bool, true, false, ℕ, List, Option, Some, Result, Ok, Err, IfOk, IfErr, IsTrue, OnOk}
+use Rattle.std.specs.Prelude.{◌≡◌, ◌≢◌, Bool, true, false, ℕ, List, [], Option, None, Some, Result, Ok, Err, Vec, IfOk}
+use Rattle.std.specs.Prelude.{IfErr, IfSome, IsTrue, OnOk}
 use Rattle.sqlite_trees.specs.declared.store.Store.{Ghosts}
 use Rattle.sqlite.specs.Held.{Held, state}
 use Rattle.sqlite.specs.State.{HasCleanDisk}
@@ -8,6 +9,8 @@ use Rattle.wb_states.specs.declared.refusal.Refusal.{Refusal}
 use Rattle.wb_states.specs.declared.refusal.Refusal.TheVariants.{Closed, Memory}
 use Rattle.wb_states.specs.Machine.{Machine}
 use Rattle.wb_states.specs.Refusals.{is_of_store}
+use Rattle.wb_merge.specs.declared.changes.ArchChanges.{ArchChanges}
+use Rattle.wb_merge.specs.Changes.{AreChanges}
 use Rattle.wb_step.specs.Offices.{StandsOn}
 use Rattle.wb_archive.specs.declared.merge_from.ArchList.{ArchList}
 use Rattle.wb_archive.specs.Readers.{IsMergeOf, MayLeave, archs_refusal}
@@ -26,6 +29,18 @@ pub record AreListsApplied {S R : Type 0} (g : Ghosts S) (remaining : R → Opti
   pub is : IsMergeOf remaining sources lists machine (Ok reply, after)
   pub stands : StandsAt after is_closed known (state g new)
   pub opened : is_closed ≡ false
+
+-- what an office tells of changes: nothing if they are not known
+abbrev pub changes_told : {X : Type 0} → Option (Vec ArchChanges X) → List ArchChanges
+changes_told None = []
+changes_told (Some changes) = changes.items
+
+-- a merge of lists that was made, with this reply, of which what it changed is known, part by part, if something is
+pub record HasListsNoted {S R X : Type 0} (g : Ghosts S) (remaining : R → Option (List ℕ)) (sources : R)
+    (lists : List (ArchList R)) (machine : Machine) (is_closed : Bool) (known : Known)
+    (changes : Option (Vec ArchChanges X)) (new : Held S) (reply : Reply) : Type 0 where
+  pub applied : AreListsApplied g remaining sources lists machine is_closed known new reply
+  pub are : IfSome changes (λ noted. AreChanges noted.items machine.records applied.after.records)
 
 -- a merge of lists that was not made is refused, and the office stands as before, or is closed
 pub record AreListsRefused {S R : Type 0} (g : Ghosts S) (remaining : R → Option (List ℕ)) (sources : R) (lists : List (ArchList R)) (machine : Machine) (is_closed : Bool) (new : Held S)

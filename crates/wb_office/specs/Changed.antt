@@ -1,5 +1,6 @@
 -- What an accepted command changed in a part of the office, written to the tables of the whole office.
-use Rattle.std.specs.Prelude.{◌≡◌, ◌≢◌, ◌⊎◌, ◌↔◌, ℕ, ◌≤◌, Bool, true, false, Option, Some, Result, Ok, IsTrue, IfErr, IfSome, OnOk, OnErr, IsSome, option_and_then}
+use Rattle.std.specs.Prelude.{◌≡◌, ◌≢◌, ◌⊎◌, ◌↔◌, ℕ, ◌≤◌, Bool, true, false, Option, Some, Result, Ok, IsTrue, IfErr}
+use Rattle.std.specs.Prelude.{IfSome, OnOk, OnErr, IsSome, option_and_then}
 use Rattle.std.specs.FinMap as map
 use Rattle.std.specs.Option.{option_map}
 use Rattle.sqlite_trees.specs.declared.store.Store.{Ghosts}

@@ -1,5 +1,5 @@
 -- What the office answers to a merge of lists that readers give, over its tables, and where it then stands.
-use Rattle.std.specs.Prelude.{◌≡◌, ℕ, List, Option, Result, Ok, Err, IfOk, IfErr, OnOk}
+use Rattle.std.specs.Prelude.{◌≡◌, ℕ, List, Option, Result, Ok, Err, Vec, IfOk, IfErr, OnOk}
 use Rattle.std.specs.List.{AllZip}
 use Rattle.sqlite_trees.specs.declared.store.Store.{Ghosts}
 use Rattle.sqlite.specs.Held.{Held, state}
@@ -10,6 +10,8 @@ use Rattle.wb_states.specs.declared.counts.Counts.{Counts}
 use Rattle.wb_states.specs.declared.reply.Reply.{Reply}
 use Rattle.wb_states.specs.Machine.{Machine, IsConsistent}
 use Rattle.wb_states.specs.Refusals.{IsOfMachine}
+use Rattle.wb_merge.specs.declared.changes.ArchChanges.{ArchChanges}
+use Rattle.wb_merge.specs.Changes.{NotesChanges}
 use Rattle.wb_archive.specs.declared.merge.PartList.{PartList}
 use Rattle.wb_archive.specs.declared.merge_from.ArchList.{ArchList}
 use Rattle.wb_archive.specs.Feeds.{IsFeedBreak}
@@ -60,6 +62,14 @@ pub record AreListsMerged {S R : Type 0} (g : Ghosts S) (remaining : R → Optio
   pub is : IsMergeOf remaining sources lists machine (Ok reply, after)
   pub settled : IsSettled after (state g new)
   pub knows : Knows after known
+
+-- lists were merged with this reply, and what leads from the office before to the one after it is noted, unless nothing
+-- is noted any longer
+pub record NotesLists {S R X : Type 0} (g : Ghosts S) (remaining : R → Option (List ℕ)) (sources : R)
+    (lists : List (ArchList R)) (machine : Machine) (known : Known) (was_noted noted : Option (Vec ArchChanges X))
+    (new : Held S) (reply : Reply) : Type 0 where
+  pub merged : AreListsMerged g remaining sources lists machine known new reply
+  pub notes : NotesChanges was_noted noted machine.records merged.after.records
 
 -- a merge of lists that readers give, carried out over the tables of a consistent office by what is known of them: the
 -- reply is one of a merge of what they give, after which the tables are settled at the office after it, what is known

@@ -1,5 +1,6 @@
 -- A merge of lists in a transaction of the office: what it reads, what it makes of the office, and why it is not made.
-use Rattle.std.specs.Prelude.{◌≡◌, ◌⊎◌, ⊤, ℕ, ◌+◌, ◌≤◌, true, false, nat_le, List, None, Some, Result, Vec, IsTrue, IfOk, IfErr, OnOk}
+use Rattle.std.specs.Prelude.{◌≡◌, ◌⊎◌, ⊤, ℕ, ◌+◌, ◌≤◌, true, false, nat_le, List, Option, None, Some, Result, Vec}
+use Rattle.std.specs.Prelude.{IsTrue, IfOk, IfErr, OnOk}
 use Rattle.std.specs.List.{AllByRecursion}
 use Rattle.sqlite_trees.specs.declared.store.Store.{Ghosts}
 use Rattle.sqlite.specs.Held.{Held, state}
@@ -17,6 +18,8 @@ use Rattle.wb_states.specs.declared.store_fault.Table.TheVariants.{Office}
 use Rattle.wb_states.specs.Limits.{count_limit}
 use Rattle.wb_states.specs.Machine.{Machine}
 use Rattle.wb_states.specs.Refusals.{is_of_store}
+use Rattle.wb_merge.specs.declared.changes.ArchChanges.{ArchChanges}
+use Rattle.wb_merge.specs.Changes.{NotesChanges}
 use Rattle.wb_merge.specs.Merged.{Records}
 use Rattle.wb_step.specs.Parts.{part_replies, records_after}
 use Rattle.wb_archive.specs.declared.fault.MergeFault.{MergeFault}
@@ -49,6 +52,13 @@ pub record AreListsToRead {R : Type 0} (MayStand : R → ReaderState → Type 0)
 abbrev pub AreListsDone : {R : Type 0} → (R → ReaderState → Type 0) → (R → ControlFault → Type 0) → R → List (PartList R) → Machine → List PartReply → Records → Type 0
 AreListsDone MayStand Breaks sources parts machine replies last =
     IsMergeOfLists MayStand Breaks machine (λ records. records ≡ last) sources parts machine.records replies
+
+-- the same, and what leads from the records before to those after it is noted, unless nothing is noted any longer
+abbrev pub AreListsNoted : {R X : Type 0} → (R → ReaderState → Type 0) → (R → ControlFault → Type 0) → R
+    → List (PartList R) → Option (Vec ArchChanges X) → Option (Vec ArchChanges X) → Machine → List PartReply → Records
+    → Type 0
+AreListsNoted MayStand Breaks sources parts before after machine replies last =
+    AreListsDone MayStand Breaks sources parts machine replies last × NotesChanges before after machine.records last
 
 -- the same of lists whose texts are known: what the lists say
 pub record AreTextsDone (sources : List ℕ) (parts : List Part) (machine : Machine) (replies : List PartReply) (last : Records) : Type 0 where

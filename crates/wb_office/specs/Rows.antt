@@ -1,6 +1,7 @@
 -- Records and counts that are written in one transaction, and how it ends; and a report, which changes so many records
 -- as its lines name.
-use Rattle.std.specs.Prelude.{◌≡◌, ◌⊎◌, ℕ, ◌≤◌, ◌+◌, List, Option, None, option_and_then, Result, IsTrue, IfErr, OnOk, OnErr}
+use Rattle.std.specs.Prelude.{◌≡◌, ◌⊎◌, ℕ, ◌≤◌, ◌+◌, List, Option, None, Some, option_and_then, Result, IsTrue, IfErr}
+use Rattle.std.specs.Prelude.{OnOk, OnErr}
 use Rattle.std.specs.FinMap as map
 use Rattle.std.specs.Option.{option_map}
 use Rattle.sqlite_trees.specs.declared.store.Store.{Ghosts}
@@ -17,6 +18,7 @@ use Rattle.wb_states.specs.declared.store_fault.Table.TheVariants.{Office}
 use Rattle.wb_states.specs.Limits.{count_limit}
 use Rattle.wb_states.specs.Machine.{Machine}
 use Rattle.wb_states.specs.Queue.{Entry}
+use Rattle.wb_merge.specs.Changes.{NamedChanges, NotesChange, record_change}
 use Rattle.wb_merge.specs.Report.{Lines}
 use Rattle.wb_merge.specs.Reported.{changed_by_line, rows_reported, with_rows}
 use Rattle.wb_step.specs.Checks.{first_refusal}
@@ -106,6 +108,11 @@ pub record CarriesRows {S A : Type 0} (g : Ghosts S) (rows : List Entry) (counts
 -- the record of a source package after the lines of a report, with its key, if it was found and a field of it differs
 abbrev pub row_from : List ℕ → Lines → List ℕ → Option Record → Option Entry
 row_from arch lines source found = option_map (λ new. ((arch, source), new)) (option_and_then (changed_by_line (map.get lines source)) found)
+
+-- what is noted after a record was found of a source package: nothing more, or that it changes to this one
+abbrev pub NotesRow : Option NamedChanges → Option NamedChanges → List ℕ → Option Record → Option Record → Type 0
+NotesRow old new source found None = new ≡ old
+NotesRow old new source found (Some changed) = NotesChange old new source (record_change found (Some changed))
 
 -- an office has these counts, and accepts this report
 abbrev pub IsAccepted : Counts → Report → Machine → Type 0

@@ -1,12 +1,19 @@
 //! What the office answers to one command over its tables: what the command names is read, the
 //! command is carried out on that part of the office in memory, and what it changed is written in
 //! one transaction.
-ghost use Rattle.std.specs.Prelude.{◌≡◌, None};
+ghost use Rattle.std.specs.Prelude.{◌≡◌, None, OnOk};
+ghost use Rattle.sqlite.specs.Held.{state};
+ghost use Rattle.sqlite.specs.State.{HasCleanDisk};
+ghost use Rattle.wb_states.specs.Machine.{IsConsistent, Machine};
+ghost use Rattle.wb_merge.specs.Changes.{NotesChanges};
 ghost use Rattle.wb_step.specs.Arguments.{arguments_of};
 ghost use Rattle.wb_step.specs.Checks.{text_refusal};
+ghost use Rattle.wb_step.specs.Step.{step};
 ghost use Rattle.wb_step.specs.TextChecks.{report_lines};
 ghost use Rattle.wb_step.specs.Utf8.{HasUtf8Texts};
+ghost use Rattle.wb_store.specs.Settled.{IsSettled};
 ghost use Rattle.wb_office.specs.Answers.{AreOf, Answers, IsNamed, KeepsStep, Responds, is_again};
+ghost use Rattle.wb_office.specs.Standing.{Knows};
 
 use crate::carry::{CarryError, carry};
 use crate::known::{Known, find_archs, learn};
@@ -16,7 +23,7 @@ use crate::reporting::answer_report;
 use deb_text::Text;
 use sqlite::Alter;
 use std::alloc::Global;
-use wb_merge::ReportLines;
+use wb_merge::{ArchChanges, ReportLines};
 use wb_states::{Command, Counts, OsCpu, Refusal, Reply, StoreFault, Table};
 use wb_step::{OfficePart, carry_out};
 use wb_store::{Store, unfit};
@@ -42,24 +49,29 @@ pub(crate) struct Answered {
 }
 
 /// Carries out a command whose texts are not refused, and of which these lines were read if it is a
-/// report, by what is known of the tables, and takes over what is known then.
+/// report, by what is known of the tables, and takes over what is known then. What a merge or a
+/// report changes is noted, and nothing of other commands.
 pub(crate) fn answer<S: Alter + Drop>(
     alloc: Global,
     store: &mut Store<S>,
     known: &mut Known,
     command: &Command,
     lines: Option<ReportLines>,
+    notes: &mut Option<Vec<ArchChanges>>,
 ) -> Result<Reply, Failure>
     requires texts { text_refusal command.now ≡ None }
     requires lines { lines ≡ report_lines command.now }
     requires utf8 { HasUtf8Texts command.now }
     ensures responds { Responds S.Store command.now known.old store.old known.new store.new result }
+    ensures noted { HasCleanDisk (state S.Store store.new) → (machine : Machine) → IsConsistent machine
+        → IsSettled machine (state S.Store store.old) → Knows machine known.old
+        → OnOk result (NotesChanges notes.old notes.new machine.records (step machine command.now).1.records) }
 {
     let archs = match find_archs(alloc, store, known) {
         Ok(archs) => archs,
         Err(fault) => return Err(Failure::Unread(fault)),
     };
-    match answer_of(alloc, store, known.counts, archs, command, lines) {
+    match answer_of(alloc, store, known.counts, archs, command, lines, notes) {
         Ok(Answered { reply, counts }) => {
             learn(known, command, counts);
             Ok(reply)
@@ -77,18 +89,25 @@ fn answer_of<S: Alter + Drop>(
     archs: Vec<(Text, OsCpu)>,
     command: &Command,
     lines: Option<ReportLines>,
+    notes: &mut Option<Vec<ArchChanges>>,
 ) -> Result<Answered, Failure>
     requires texts { text_refusal command.now ≡ None }
     requires lines { lines ≡ report_lines command.now }
     requires utf8 { HasUtf8Texts command.now }
     ensures answers { Answers S.Store (AreOf counts archs.items) command.now store.old store.new result }
+    ensures noted { HasCleanDisk (state S.Store store.new) → (machine : Machine) → IsConsistent machine
+        → IsSettled machine (state S.Store store.old) → AreOf counts archs.items machine
+        → OnOk result (NotesChanges notes.old notes.new machine.records (step machine command.now).1.records) }
 {
     match command {
-        Command::Merge(merge) => answer_merge(alloc, store, counts, &archs, merge),
+        Command::Merge(merge) => answer_merge(alloc, store, counts, &archs, merge, notes),
         Command::Report(report) => {
-            answer_report(alloc, store, counts, &archs, report, &lines.unwrap())
+            answer_report(alloc, store, counts, &archs, report, &lines.unwrap(), notes)
         }
-        _ => answer_one(alloc, store, counts, archs, command),
+        _ => {
+            *notes = None;
+            answer_one(alloc, store, counts, archs, command)
+        }
     }
 }
 

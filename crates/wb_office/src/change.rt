@@ -8,7 +8,8 @@ ghost use Rattle.wb_states.specs.declared.store_fault.Table.TheVariants.{Office,
 ghost use Rattle.wb_step.specs.Locality.{with_entry};
 ghost use Rattle.wb_store.specs.Faults.{IsUnfit};
 ghost use Rattle.wb_store.specs.Writes as write;
-ghost use Rattle.wb_office.specs.Changed.{ChangesBy, IsStepOf, IsThere, IsWriteOf, IsWriteOfRecord, Writes};
+ghost use Rattle.wb_office.specs.Changed.{ChangesBy, IsStepOf, IsThere, IsWriteOf};
+ghost use Rattle.wb_office.specs.Changed.{IsWriteOfRecord, Writes};
 ghost use Rattle.wb_office.specs.Changed.{before_counts, found_at};
 ghost use Rattle.wb_office.specs.Changed.{HasFittingCounts, HasFittingTakeAt, LacksFittingNumbers};
 

@@ -1,5 +1,6 @@
 //! The lives of an office over files, one after another.
-ghost use Rattle.std.specs.Prelude.{◌≡◌, ◌+◌, ◌++◌, ◌∷◌, [], ◌<◌, ◌≤◌, length, vec_capacity, vec_len, IfOk, IfErr, IsSomeAnd, IsTrue};
+ghost use Rattle.std.specs.Prelude.{◌≡◌, ◌+◌, ◌++◌, ◌∷◌, [], ◌<◌, ◌≤◌, length, vec_capacity};
+ghost use Rattle.std.specs.Prelude.{vec_len, IfOk, IfErr, IsSomeAnd, IsTrue};
 ghost use Rattle.wb_states.specs.declared.store_fault.StoreFault.TheVariants.{Memory};
 ghost use Rattle.wb_office.specs.History.{AreLivedInTurn, HasLived, IsCutAfter, IsLivedOnce};
 

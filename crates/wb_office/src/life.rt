@@ -1,10 +1,12 @@
 //! One life of an office over files.
-ghost use Rattle.std.specs.Prelude.{◌≡◌, ◌⊎◌, ◌≤◌, [], false, length, vec_capacity, IfOk, IfErr, IfSome, IsTrue};
+ghost use Rattle.std.specs.Prelude.{◌≡◌, ◌⊎◌, ◌≤◌, [], false, length, vec_capacity, IfOk, IfErr};
+ghost use Rattle.std.specs.Prelude.{IfSome, IsTrue};
 ghost use Rattle.sqlite_wal.specs.Reads.{AreClean};
 ghost use Rattle.wb_states.specs.Machine.{Machine};
 ghost use Rattle.wb_states.specs.declared.store_fault.StoreFault.TheVariants.{Memory};
 ghost use Rattle.wb_store.specs.Files.{IsFaultOfOpening};
-ghost use Rattle.wb_office.specs.Files.{GivesUp, HoldOne, IsFaultOfLife, IsGivenUp, IsLife, IsSession, LeavesLife, LivesFound, LivesOn};
+ghost use Rattle.wb_office.specs.Files.{GivesUp, HoldOne, IsFaultOfLife, IsGivenUp, IsLife};
+ghost use Rattle.wb_office.specs.Files.{IsSession, LeavesLife, LivesFound, LivesOn};
 
 use crate::Office;
 use crate::commands::{Outcome, carry_out_all};

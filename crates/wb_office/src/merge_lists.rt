@@ -7,12 +7,14 @@ ghost use Rattle.wb_states.specs.Limits.{count_limit};
 ghost use Rattle.wb_step.specs.Parts.{is_merged};
 ghost use Rattle.wb_archive.specs.Readers.{refusal_by};
 ghost use Rattle.wb_store.specs.Faults.{IsUnfit};
-ghost use Rattle.wb_office.specs.MergeLists.{AreListsDone, AreListsToRead, IfFailed, IfRefused, MergesLists};
+ghost use Rattle.wb_office.specs.MergeLists.{AreListsNoted, AreListsToRead, IfFailed, IfRefused};
+ghost use Rattle.wb_office.specs.MergeLists.{MergesLists};
 ghost use Rattle.wb_office.specs.MergeLists.{counted, fault_in};
 
 use sqlite::Alter;
 use std::alloc::Global;
 use wb_archive::{MergeFault, PartList, ReadParagraphs, merge_lists};
+use wb_merge::ArchChanges;
 use wb_states::{COUNT_LIMIT, Counts, PartEnd, PartReply, Refusal, StoreFault, Table};
 use wb_store::{Writing, unfit};
 
@@ -84,22 +86,23 @@ fn counted(counts: Counts) -> Result<Counts, Stop>
     })
 }
 
-/// Merges lists in a transaction that is under way, and counts the merge. The caller takes the
-/// transaction back if the merge stops.
+/// Merges lists in a transaction that is under way, counts the merge, and notes what it changes.
+/// The caller takes the transaction back if the merge stops.
 pub(crate) fn merge_in<S: Alter + Drop, R: ReadParagraphs>(
     alloc: Global,
     writing: &mut Writing<'_, S>,
     counts: Counts,
     sources: &mut R,
     parts: Vec<PartList<R>>,
+    notes: &mut Option<Vec<ArchChanges>>,
 ) -> Result<Vec<PartReply>, Stop>
     requires unsaved { writing.now.is_saved ≡ false }
     ensures same_reference { writing.new.store.ghost_name ≡ writing.old.store.ghost_name }
     ensures merges { MergesLists S.Store (AreListsToRead R.may_stand_at sources.old parts.items)
-        (AreListsDone R.may_stand_at R.breaks sources.old parts.items) counts
+        (AreListsNoted R.may_stand_at R.breaks sources.old parts.items notes.old notes.new) counts
         writing.old.store.now writing.new.store.now result }
 {
-    let replies = match merge_lists(alloc, writing, sources, parts) {
+    let replies = match merge_lists(alloc, writing, sources, parts, notes) {
         Ok(replies) => replies,
         Err(fault) => return Err(Stop::Failed(fault_in(fault))),
     };

@@ -1,14 +1,18 @@
 //! What the office answers to a merge over its tables: the lists are read paragraph by paragraph
 //! into the tables, and the records that they change are written, in one transaction.
-ghost use Rattle.std.specs.Prelude.{◌≡◌, None, false, nat_le};
+ghost use Rattle.std.specs.Prelude.{◌≡◌, None, OnOk, false, nat_le};
 ghost use Rattle.sqlite.specs.Held.{state};
-ghost use Rattle.sqlite.specs.State.{Survives};
+ghost use Rattle.sqlite.specs.State.{HasCleanDisk, Survives};
 ghost use Rattle.wb_states.specs.declared.command.Command.TheVariants as of;
 ghost use Rattle.wb_states.specs.Limits.{count_limit};
+ghost use Rattle.wb_states.specs.Machine.{IsConsistent, Machine};
+ghost use Rattle.wb_merge.specs.Changes.{NotesChanges};
 ghost use Rattle.wb_step.specs.Checks.{text_refusal};
+ghost use Rattle.wb_step.specs.Step.{step};
+ghost use Rattle.wb_store.specs.Settled.{IsSettled};
 ghost use Rattle.wb_office.specs.Answers.{Answers, AreOf, merged_answer};
 ghost use Rattle.wb_office.specs.MergeCarried.{CarriesLists, EndsStopped};
-ghost use Rattle.wb_office.specs.MergeLists.{AreListsDone, AreListsToRead};
+ghost use Rattle.wb_office.specs.MergeLists.{AreListsNoted, AreListsToRead};
 
 use crate::answer::{Answered, Failure};
 use crate::carry::{CarryError, failure};
@@ -19,6 +23,7 @@ use deb_text::{Items, Text};
 use sqlite::Alter;
 use std::alloc::Global;
 use wb_archive::{PartList, ReadParagraphs};
+use wb_merge::ArchChanges;
 use wb_states::command::Merge;
 use wb_states::{Counts, OsCpu, PartReply, Refusal, Reply, StoreFault, Table};
 use wb_store::{Store, unfit};
@@ -46,21 +51,23 @@ fn stopped<S: Alter + Drop>(
     }
 }
 
-/// Merges lists in a transaction of its own, and commits it. If it fails, the office is as it was,
-/// unless the commit is in doubt (this project's own).
+/// Merges lists in a transaction of its own, commits it, and notes what it changes. If it fails, the
+/// office is as it was, unless the commit is in doubt (this project's own).
 pub(crate) fn carry_lists<S: Alter + Drop, R: ReadParagraphs>(
     alloc: Global,
     store: &mut Store<S>,
     counts: Counts,
     sources: &mut R,
     parts: Vec<PartList<R>>,
+    notes: &mut Option<Vec<ArchChanges>>,
 ) -> Result<Vec<PartReply>, Failure>
     requires idle { store.old.in_transaction ≡ false }
     ensures carries { CarriesLists S.Store (AreListsToRead R.may_stand_at sources.old parts.items)
-        (AreListsDone R.may_stand_at R.breaks sources.old parts.items) counts store.old store.new result }
+        (AreListsNoted R.may_stand_at R.breaks sources.old parts.items notes.old notes.new) counts
+        store.old store.new result }
 {
     let mut writing = store.begin();
-    let replies = match merge_in(alloc, &mut writing, counts, sources, parts) {
+    let replies = match merge_in(alloc, &mut writing, counts, sources, parts, notes) {
         Ok(replies) => replies,
         Err(stop) => {
             let ended = writing.roll_back();
@@ -95,16 +102,20 @@ pub(crate) fn merged(counts: Counts, replies: Vec<PartReply>) -> Answered
     }
 }
 
-/// Carries out a merge whose lists are in memory.
+/// Carries out a merge whose lists are in memory, and notes what it changes.
 pub(crate) fn answer_merge<S: Alter + Drop>(
     alloc: Global,
     store: &mut Store<S>,
     counts: Counts,
     archs: &[(Text, OsCpu)],
     merge: &Merge,
+    notes: &mut Option<Vec<ArchChanges>>,
 ) -> Result<Answered, Failure>
     requires texts { text_refusal (of.Merge merge.now) ≡ None }
     ensures answers { Answers S.Store (AreOf counts archs.now) (of.Merge merge.now) store.old store.new result }
+    ensures noted { HasCleanDisk (state S.Store store.new) → (machine : Machine) → IsConsistent machine
+        → IsSettled machine (state S.Store store.old) → AreOf counts archs.now machine
+        → OnOk result (NotesChanges notes.old notes.new machine.records (step machine (of.Merge merge.now)).1.records) }
 {
     if !store.is_idle() {
         return Err(Failure::Unread(unfit(Table::Office)));
@@ -113,6 +124,6 @@ pub(crate) fn answer_merge<S: Alter + Drop>(
         return Err(Failure::Refused(Refusal::Memory));
     };
     let mut sources = Paragraphs::of(merge.sources.as_slice());
-    let replies = carry_lists(alloc, store, counts, &mut sources, parts)?;
+    let replies = carry_lists(alloc, store, counts, &mut sources, parts, notes)?;
     Ok(merged(counts, replies))
 }

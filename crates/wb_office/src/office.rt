@@ -1,5 +1,6 @@
 //! The office over tables: each command is one transaction.
-ghost use Rattle.std.specs.Prelude.{◌≡◌, ◌⊎◌, false, true, None, Err, Ok, map, IfOk, IfErr, IsErrAnd, IsTrue};
+ghost use Rattle.std.specs.Prelude.{◌≡◌, ◌⊎◌, [], false, true, None, Err, Ok, map, IfOk, IfErr};
+ghost use Rattle.std.specs.Prelude.{IfSome, IsErrAnd, IsTrue, OnOk};
 ghost use Rattle.sqlite.specs.Change.{KeepsRows};
 ghost use Rattle.sqlite.specs.Files.{file_state};
 ghost use Rattle.sqlite.specs.Held.{state};
@@ -14,7 +15,8 @@ ghost use Rattle.wb_sql.specs.Format.{HasFormatColumn};
 ghost use Rattle.wb_sql.specs.Upgrading.{HasFirstOffice};
 ghost use Rattle.wb_store.specs.Checks.{HasGoodRows, HasGoodRowsIn};
 ghost use Rattle.wb_store.specs.Formats.{IsNewer};
-ghost use Rattle.wb_store.specs.Opening.{HasNoRowsLeft, HasNoScratchRows, IsRefusedFrom, PreparesOffice};
+ghost use Rattle.wb_store.specs.Opening.{HasNoRowsLeft, HasNoScratchRows, IsRefusedFrom};
+ghost use Rattle.wb_store.specs.Opening.{PreparesOffice};
 ghost use Rattle.wb_store.specs.declared.format.Format.TheVariants.{One};
 ghost use Rattle.wb_store.specs.Files.{AreFoundAt, AreNew, AreRefused, AreUnclosed};
 ghost use Rattle.wb_store.specs.Files.{IsFaultOfClosing, IsFaultOfOpening, LeaveOffice};
@@ -29,7 +31,9 @@ ghost use Rattle.wb_states.specs.Holds.{holder_of};
 ghost use Rattle.wb_states.specs.Queries.{answer_of, has_malformed_name};
 ghost use Rattle.wb_states.specs.Refusals.{IsOfMachine, is_of_store};
 ghost use Rattle.wb_office.specs.Applies.{Applies, CannotGoOn, Ends, EndsWith, refusal_for};
-ghost use Rattle.wb_office.specs.AppliesLists.{AppliesLists};
+ghost use Rattle.wb_merge.specs.Changes.{AreChanges};
+ghost use Rattle.wb_step.specs.Step.{step};
+ghost use Rattle.wb_office.specs.AppliesLists.{AppliesLists, HasListsNoted, changes_told};
 ghost use Rattle.wb_office.specs.Asks.{Asks};
 ghost use Rattle.wb_office.specs.Failed.{HasFailed};
 ghost use Rattle.wb_office.specs.Standing.{LeavesOne, StandsAt, StandsAtOne};
@@ -44,7 +48,8 @@ use sqlite::{Alter, Connection, FileStore, Files, Options};
 use sqlite_disk::Disk;
 use std::alloc::Global;
 use std::io::BufRead;
-use wb_archive::{ArchList, MergeFrom, check_archs};
+use wb_archive::{ArchList, MergeFrom, TellChanges, check_archs};
+use wb_merge::ArchChanges;
 use wb_rows::TableRow;
 use wb_states::{Answer, Command, Query, Refusal, Reply, StoreFault};
 use wb_step::{CarryOut, check_texts};
@@ -57,6 +62,11 @@ pub struct Office<S: Alter + Drop> {
     store: Store<S>,
     known: Known,
     is_closed: bool,
+    /// Whether what merges and reports change is noted.
+    is_noting: bool,
+    /// What the last command changed, if it was a merge or a report that was accepted, and this was
+    /// noted.
+    changes: Option<Vec<ArchChanges>>,
 }
 
 impl<S: Alter + Drop> Office<S> {
@@ -109,6 +119,8 @@ impl<S: Alter + Drop> Office<S> {
                 store,
                 known: Known::new(alloc, counts),
                 is_closed: false,
+                is_noting: false,
+                changes: None,
             }),
             Err(refused) => Err(refused),
         }
@@ -169,13 +181,29 @@ impl<S: Alter + Drop> Office<S> {
     pub fn apply(&mut self, command: &Command) -> Result<Reply, Refusal>
         ensures applies { Applies S.Store command.now self.old.is_closed self.old.known self.old.store
             self.new.is_closed self.new.known self.new.store result }
+        ensures noted { HasCleanDisk (state S.Store self.new.store) → (machine : Machine)
+            → StandsAt machine self.old.is_closed self.old.known (state S.Store self.old.store)
+            → OnOk result (IfSome self.new.changes (λ changes.
+            AreChanges changes.items machine.records (step machine command.now).1.records)) }
     {
+        self.changes = None;
         if self.is_closed {
             return Err(Refusal::Closed);
         }
         let lines = check_texts(self.alloc, command)?;
-        match answer(self.alloc, &mut self.store, &mut self.known, command, lines) {
-            Ok(reply) => Ok(reply),
+        let mut notes = no_notes(self.alloc, self.is_noting);
+        match answer(
+            self.alloc,
+            &mut self.store,
+            &mut self.known,
+            command,
+            lines,
+            &mut notes,
+        ) {
+            Ok(reply) => {
+                self.changes = notes;
+                Ok(reply)
+            }
             Err(failure) => {
                 let (refusal, is_closed) = end(&mut self.store, failure);
                 self.is_closed = is_closed;
@@ -204,13 +232,29 @@ impl<S: Alter + Drop> Office<S> {
     ) -> Result<Reply, Refusal>
         ensures applies { AppliesLists S.Store R.remaining sources parts.items self.old.is_closed self.old.known self.old.store
             self.new.is_closed self.new.known self.new.store result }
+        ensures noted { HasCleanDisk (state S.Store self.new.store) → (machine : Machine)
+            → StandsAt machine self.old.is_closed self.old.known (state S.Store self.old.store)
+            → IfOk result (HasListsNoted S.Store R.remaining sources parts.items machine
+            self.new.is_closed self.new.known self.new.changes self.new.store) }
     {
+        self.changes = None;
         if self.is_closed {
             return Err(Refusal::Closed);
         }
         check_archs(parts.as_slice())?;
-        match answer_lists(self.alloc, &mut self.store, &mut self.known, sources, parts) {
-            Ok(reply) => Ok(reply),
+        let mut notes = no_notes(self.alloc, self.is_noting);
+        match answer_lists(
+            self.alloc,
+            &mut self.store,
+            &mut self.known,
+            sources,
+            parts,
+            &mut notes,
+        ) {
+            Ok(reply) => {
+                self.changes = notes;
+                Ok(reply)
+            }
             Err(failure) => {
                 let (refusal, is_closed) = end(&mut self.store, failure);
                 self.is_closed = is_closed;
@@ -276,6 +320,28 @@ impl<S: Alter + Drop> Office<S> {
         }
     }
 
+    /// Has what merges and reports change noted from now on, for [`changes`](Office::changes).
+    /// Nothing else of the office changes. Takes no memory (this project's own).
+    pub fn note_changes(&mut self)
+        ensures stays { (self.new.is_closed ≡ self.old.is_closed) × (self.new.known ≡ self.old.known)
+            × (self.new.store ≡ self.old.store) }
+    {
+        self.is_noting = true;
+    }
+
+    /// What the last command changed, architecture by architecture, if it was a merge or a
+    /// report that was accepted, and if that was noted: nothing if [`note_changes`](Office::note_changes) was not
+    /// called before, if there was no memory for it, or after any other command. Takes no memory
+    /// (this project's own).
+    pub fn changes(&self) -> &[ArchChanges]
+        ensures value { result.now ≡ changes_told self.now.changes }
+    {
+        match &self.changes {
+            Some(changes) => changes.as_slice(),
+            None => &[],
+        }
+    }
+
     /// Each row of the office's tables, once, as [`Store::rows`] has them, of an office that is
     /// open. The office is as it was; after a fault it is given up.
     pub(crate) fn rows(&mut self) -> Result<Items<TableRow>, StoreFault>
@@ -327,6 +393,8 @@ impl<D: Disk + Drop> Office<FileStore<D>> {
             store,
             known: Known::new(alloc, counts),
             is_closed: false,
+            is_noting: false,
+            changes: None,
         })
     }
 
@@ -451,6 +519,14 @@ impl<S: Alter + Drop> CarryOut for Office<S> {
     ghost consistent = { λ office machine stands. stands.consistent };
 }
 
+impl<S: Alter + Drop> TellChanges for Office<S> {
+    ghost told = { λ office. changes_told office.changes };
+
+    fn changes(&self) -> &[ArchChanges] {
+        Office::changes(self)
+    }
+}
+
 impl<S: Alter + Drop> MergeFrom for Office<S> {
     fn merge_from<R: BufRead + Drop>(
         &mut self,
@@ -459,6 +535,16 @@ impl<S: Alter + Drop> MergeFrom for Office<S> {
     ) -> Result<Reply, Refusal> {
         Office::merge_from(self, sources, parts)
     }
+}
+
+/// Nothing that is noted yet, if something is to be noted. Takes no memory.
+fn no_notes(alloc: Global, is_noting: bool) -> Option<Vec<ArchChanges>>
+    ensures value { IfSome result (λ begun. begun.items ≡ []) }
+{
+    if is_noting {
+        return Some(Vec::new(alloc));
+    }
+    None
 }
 
 /// What is answered after a failure, and whether the office is closed then.

@@ -40,6 +40,7 @@ pub(crate) fn keyed(
 ) -> Result<Option<KeyedRecord>, AllocError>
     ensures value { IfOk result (λ row. option_map entry_of row
         ≡ option_map (λ current. ((arch.now, source.now), current)) found) }
+    ensures record { IfOk result (λ row. option_map (λ row. row.current) row ≡ found) }
 {
     match found {
         None => Ok(None),

@@ -4,7 +4,8 @@ ghost use Rattle.std.specs.Option.{option_map};
 ghost use Rattle.wb_states.specs.declared.store_fault.StoreFault.TheVariants.{Memory};
 ghost use Rattle.wb_step.specs.Named.{listed};
 ghost use Rattle.wb_states.specs.Lookups.{entry_of};
-ghost use Rattle.wb_office.specs.Sought.{office_of, with_archs, with_entries, with_entry, with_pairs};
+ghost use Rattle.wb_office.specs.Sought.{office_of, with_archs, with_entries, with_entry};
+ghost use Rattle.wb_office.specs.Sought.{with_pairs};
 
 use crate::named::found::FoundPart;
 use deb_text::Text;

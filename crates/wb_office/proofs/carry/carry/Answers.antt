@@ -7,7 +7,8 @@ use Rattle.wb_store.specs.Settled.{SettlesBy}
 use Rattle.wb_office.specs.declared.carry.CarryError.TheVariants.{InDoubt}
 use Rattle.wb_office.specs.Changed.{ChangesBy}
 use Rattle.wb_office.specs.Carried.{CarriesOut}
-use Rattle.wb_office.proofs.CarryLemmas.{carries_not, change_why, change_way, change_survives, carries_it, carries_in_doubt, commit_survives, memory_why, memory_way}
+use Rattle.wb_office.proofs.CarryLemmas.{carries_not, change_why, change_way, change_survives, carries_it}
+use Rattle.wb_office.proofs.CarryLemmas.{carries_in_doubt, commit_survives, memory_why, memory_way}
 use Rattle.wb_office.proofs.carry.carry.Goals as goal
 
 pub returns-in-Err : goal.returns-in-Err

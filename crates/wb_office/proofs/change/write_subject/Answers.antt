@@ -2,7 +2,8 @@ use Rattle.std.proofs.Common.{◌≡◌, ◌∙◌, inl, inr, sym, subst, false,
 use Rattle.std.proofs.lemmas.Bool.{false≢true}
 use Rattle.wb_states.specs.declared.command.Command.TheVariants as of
 use Rattle.wb_states.specs.Machine.{Machine}
-use Rattle.wb_office.specs.Changed.{LacksFittingNumbers, IsStepOf, IsThere, Writes, before_counts, found_at, IsEntering, IsWriteOf}
+use Rattle.wb_office.specs.Changed.{LacksFittingNumbers, IsStepOf, IsThere, Writes, before_counts, found_at}
+use Rattle.wb_office.specs.Changed.{IsEntering, IsWriteOf}
 use Rattle.wb_office.proofs.StepOfLemmas.{adds_arch, adds_builder, found_there, puts}
 use Rattle.wb_office.proofs.WriteLemmas.{writes_change, writes_nothing, writes_same, record_written}
 use Rattle.wb_office.proofs.change.write_subject.Goals as goal

@@ -1,4 +1,4 @@
-use Rattle.std.proofs.Common.{◌≡◌, ◌+◌, ◌++◌, [], ◌∷◌, inl, inr, List, Bool, ap, refl, subst, sym, ◌∙◌, length, arith}
+use Rattle.std.proofs.Common.{◌+◌, ◌++◌, [], ◌∷◌, inl, inr, List, Bool, ap, refl, subst, sym, ◌∙◌, length, arith}
 use Rattle.std.proofs.lemmas.List.{append_assoc, append-nil, drop_all, length-append}
 use Rattle.wb_states.specs.declared.command.Command.{Command}
 use Rattle.wb_office.specs.declared.history.Found.{Found}

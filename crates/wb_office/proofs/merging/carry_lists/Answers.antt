@@ -7,14 +7,15 @@ use Rattle.wb_store.specs.Settled.{SettlesBy}
 use Rattle.wb_office.specs.declared.answer.Failure.TheVariants.{Uncommitted}
 use Rattle.wb_office.specs.declared.carry.CarryError.TheVariants.{InDoubt}
 use Rattle.wb_office.specs.MergeCarried.{CarriesLists}
-use Rattle.wb_office.specs.MergeLists.{AreListsDone, AreListsToRead, MergesLists}
+use Rattle.wb_office.specs.MergeLists.{AreListsNoted, AreListsToRead, MergesLists}
 use Rattle.wb_office.proofs.MergeCarryLemmas.{merge_carried, merge_in_doubt, merge_lacks_memory, merge_stops}
 use Rattle.wb_office.proofs.merging.carry_lists.Goals as goal
 
 pub returns-in-Err : goal.returns-in-Err
 returns-in-Err g c =
     let ready = AreListsToRead g.R.ReadParagraphs.may_stand_at c.args.sources.now c.args.parts.items in
-    let done = AreListsDone g.R.ReadParagraphs.may_stand_at g.R.ReadParagraphs.breaks c.args.sources.now c.args.parts.items in
+    let done = AreListsNoted g.R.ReadParagraphs.may_stand_at g.R.ReadParagraphs.breaks c.args.sources.now
+    c.args.parts.items c.args.notes.now c.merge_in.new.notes in
     let counts = c.args.counts in
     let old = c.args.store.now in
     let mid = c.merge_in.new.writing.store.now in
@@ -28,7 +29,8 @@ returns-in-Err g c =
 pub returns-in-Ok-commit : goal.returns-in-Ok-commit
 returns-in-Ok-commit g c =
     let ready = AreListsToRead g.R.ReadParagraphs.may_stand_at c.args.sources.now c.args.parts.items in
-    let done = AreListsDone g.R.ReadParagraphs.may_stand_at g.R.ReadParagraphs.breaks c.args.sources.now c.args.parts.items in
+    let done = AreListsNoted g.R.ReadParagraphs.may_stand_at g.R.ReadParagraphs.breaks c.args.sources.now
+    c.args.parts.items c.args.notes.now c.merge_in.new.notes in
     let counts = c.args.counts in
     let old = c.args.store.now in
     let mid = c.merge_in.new.writing.store.now in
@@ -43,7 +45,8 @@ returns-in-Ok-commit g c =
 pub returns-in-Err-Memory : goal.returns-in-Err-Memory
 returns-in-Err-Memory g c =
     let ready = AreListsToRead g.R.ReadParagraphs.may_stand_at c.args.sources.now c.args.parts.items in
-    let done = AreListsDone g.R.ReadParagraphs.may_stand_at g.R.ReadParagraphs.breaks c.args.sources.now c.args.parts.items in
+    let done = AreListsNoted g.R.ReadParagraphs.may_stand_at g.R.ReadParagraphs.breaks c.args.sources.now
+    c.args.parts.items c.args.notes.now c.merge_in.new.notes in
     let counts = c.args.counts in
     let old = c.args.store.now in
     let mid = c.merge_in.new.writing.store.now in
@@ -64,7 +67,8 @@ returns-in-Err-Memory g c =
 pub returns : goal.returns
 returns g c =
     let ready = AreListsToRead g.R.ReadParagraphs.may_stand_at c.args.sources.now c.args.parts.items in
-    let done = AreListsDone g.R.ReadParagraphs.may_stand_at g.R.ReadParagraphs.breaks c.args.sources.now c.args.parts.items in
+    let done = AreListsNoted g.R.ReadParagraphs.may_stand_at g.R.ReadParagraphs.breaks c.args.sources.now
+    c.args.parts.items c.args.notes.now c.merge_in.new.notes in
     let counts = c.args.counts in
     let old = c.args.store.now in
     let mid = c.merge_in.new.writing.store.now in

@@ -2,7 +2,8 @@ use Rattle.std.proofs.Common.{ap, ◌∙◌, Ok, Err}
 use Rattle.wb_store.proofs.ReadLemmas.{handed_on}
 use Rattle.wb_office.proofs.AskLemmas.{of_known, of_unknown}
 use Rattle.wb_states.specs.Queries.{depends_at}
-use Rattle.wb_store.proofs.FindsLemmas.{fails_to_find, finds_both, finds_from, finds_looked_up, finds_then, lacks_memory, then_fails}
+use Rattle.wb_store.proofs.FindsLemmas.{fails_to_find, finds_both, finds_from, finds_looked_up, finds_then}
+use Rattle.wb_store.proofs.FindsLemmas.{lacks_memory, then_fails}
 use Rattle.wb_office.proofs.query.find_depends.Goals as goal
 
 pub returns-in_err-is_unknown-clause-finds : goal.returns-in_err-is_unknown-clause-finds

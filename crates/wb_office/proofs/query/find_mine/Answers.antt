@@ -3,7 +3,8 @@ use Rattle.deb_text.specs.Lists.{is_nonempty}
 use Rattle.wb_store.proofs.ReadLemmas.{handed_on}
 use Rattle.wb_office.proofs.AskLemmas.{mine-is, mine-unknown, mine_with}
 use Rattle.wb_store.proofs.ScratchLemmas.{counted-is_nonempty}
-use Rattle.wb_store.proofs.FindsLemmas.{fails_to_find, finds_both, finds_from, finds_looked_up, finds_then, lacks_memory, then_fails}
+use Rattle.wb_store.proofs.FindsLemmas.{fails_to_find, finds_both, finds_from, finds_looked_up, finds_then}
+use Rattle.wb_store.proofs.FindsLemmas.{lacks_memory, then_fails}
 use Rattle.wb_office.proofs.query.find_mine.Goals as goal
 
 pub returns-in_err-archs-clause-finds : goal.returns-in_err-archs-clause-finds

@@ -7,7 +7,8 @@ use Rattle.wb_store.specs.Settled.{SettlesBy}
 use Rattle.wb_office.specs.declared.carry.CarryError.TheVariants.{InDoubt}
 use Rattle.wb_office.specs.Rows.{CarriesRows, WritesRows}
 use Rattle.wb_states.specs.Lookups.{entry_of}
-use Rattle.wb_office.proofs.RowsCarryLemmas.{rows_not, change_why, change_way, change_survives, rows_carried, rows_in_doubt, commit_survives, memory_why, memory_way}
+use Rattle.wb_office.proofs.RowsCarryLemmas.{rows_not, change_why, change_way, change_survives, rows_carried}
+use Rattle.wb_office.proofs.RowsCarryLemmas.{rows_in_doubt, commit_survives, memory_why, memory_way}
 use Rattle.wb_office.proofs.reporting.carry_rows.Goals as goal
 
 pub returns-in-Err : goal.returns-in-Err
