@@ -1,5 +1,6 @@
 //! The journal of an office in a file.
-ghost use Rattle.std.specs.Prelude.{◌≡◌, [], ◌∷◌, ◌++◌};
+ghost use Rattle.std.specs.Prelude.{◌≡◌, [], ◌∷◌, ◌++◌, map};
+ghost use Rattle.wb_journal.specs.Appended.{noted};
 
 use deb_text::Items;
 use http_server::Log;
@@ -10,6 +11,7 @@ use std::io::{self, Read, Seek, SeekFrom, Write};
 use std::marker::Model;
 use std::os::unix::fs::OpenOptionsExt;
 use wb_journal::{Asker, Journal, entry_line, merge_entry_line};
+use wb_merge::ArchChanges;
 use wb_states::command::Merge;
 use wb_states::{Command, Reply};
 
@@ -42,18 +44,29 @@ impl<'a> FileJournal<'a> {
     }
 
     /// Appends a line for the command to the file.
-    fn write_command(&mut self, by: &Asker, command: &Command, reply: &Reply) -> io::Result<()> {
+    fn write_command(
+        &mut self,
+        by: &Asker,
+        command: &Command,
+        reply: &Reply,
+        changes: &[ArchChanges],
+    ) -> io::Result<()> {
         let alloc = self.rt.alloc();
         let time = time_now(self.rt, alloc);
-        let line = entry_line(alloc, by.name(), time.as_deref(), command, reply)?;
+        let line = entry_line(alloc, by.name(), time.as_deref(), changes, command, reply)?;
         self.write(line.as_str())
     }
 
     /// Appends a line for a merge to the file.
-    fn write_merge(&mut self, by: &Asker, reply: &Reply) -> io::Result<()> {
+    fn write_merge(
+        &mut self,
+        by: &Asker,
+        reply: &Reply,
+        changes: &[ArchChanges],
+    ) -> io::Result<()> {
         let alloc = self.rt.alloc();
         let time = time_now(self.rt, alloc);
-        let line = merge_entry_line(alloc, by.name(), time.as_deref(), reply)?;
+        let line = merge_entry_line(alloc, by.name(), time.as_deref(), changes, reply)?;
         self.write(line.as_str())
     }
 
@@ -105,21 +118,21 @@ impl<'a> FileJournal<'a> {
 impl<'a> Journal for FileJournal<'a> {
     ghost entries = { λ journal. journal.entries };
 
-    fn append(&mut self, by: &Asker, command: &Command, reply: &Reply) {
-        let entries = self.entries.and(by, command, reply);
-        let written = self.write_command(by, command, reply);
+    fn append(&mut self, by: &Asker, command: &Command, reply: &Reply, changes: &[ArchChanges]) {
+        let entries = self.entries.and(by, command, reply, changes);
+        let written = self.write_command(by, command, reply, changes);
         self.report(written);
         self.entries = entries;
     }
 
-    fn append_merge(&mut self, by: &Asker, reply: &Reply) {
+    fn append_merge(&mut self, by: &Asker, reply: &Reply, changes: &[ArchChanges]) {
         let alloc = self.rt.alloc();
         let merge = Command::Merge(Merge {
             sources: Items::new(alloc),
             parts: Items::new(alloc),
         });
-        let entries = self.entries.and(by, &merge, reply);
-        let written = self.write_merge(by, reply);
+        let entries = self.entries.and(by, &merge, reply, changes);
+        let written = self.write_merge(by, reply, changes);
         self.report(written);
         self.entries = entries;
     }
@@ -130,18 +143,23 @@ impl<'a> Journal for FileJournal<'a> {
 #[derive(Drop)]
 struct Entries {
     // A log has two things of each entry: so the first is a log of one entry, with who gave the
-    // command and the command.
-    log: Log<Log<Asker, Command>, Reply>,
+    // command and the command, and the second one with the reply and the log of what was changed.
+    log: Log<Log<Asker, Command>, Log<Reply, Log<ArchChanges, ()>>>,
 }
 
 impl Model for Entries {
     ghost use Rattle.std.specs.Prelude.{List, flat_map, map};
-    ghost use Rattle.wb_journal.specs.Appended.{Entry};
+    ghost use Rattle.wb_journal.specs.Appended.{Entry, noted};
 
     ghost Value = { List Entry };
 
-    ghost view = { λ entries. flat_map (λ given. map
-        (λ pair. record { by = pair.0; command = pair.1; reply = given.1 }) given.0.items) entries.log.items };
+    ghost view = { λ entries. flat_map (λ given. flat_map (λ pair. map
+        (λ answer. record {
+          by = pair.0;
+          command = pair.1;
+          reply = answer.0;
+          changes = map (λ given. noted given.0) answer.1.items;
+        }) given.1.items) given.0.items) entries.log.items };
 }
 
 impl Entries {
@@ -152,16 +170,34 @@ impl Entries {
         Entries { log: Log::new() }
     }
 
-    /// The same, and then the entry of this command, with who gave it and its reply.
-    fn and(&self, by: &Asker, command: &Command, reply: &Reply) -> Entries
+    /// The same, and then the entry of this command, with who gave it, its reply and what it
+    /// changed.
+    fn and(&self, by: &Asker, command: &Command, reply: &Reply, changes: &[ArchChanges]) -> Entries
         ensures value { result ≡ self.now
-            ++ record { by = by.now; command = command.now; reply = reply.now } ∷ [] }
+            ++ record {
+              by = by.now;
+              command = command.now;
+              reply = reply.now;
+              changes = map noted changes.now;
+            } ∷ [] }
     {
         let given = Log::new().and(by, command);
+        let answer = Log::new().and(reply, &log_of(changes));
         Entries {
-            log: self.log.and(&given, reply),
+            log: self.log.and(&given, &answer),
         }
     }
+}
+
+/// The log of these changes, which takes no memory.
+fn log_of(changes: &[ArchChanges]) -> Log<ArchChanges, ()>
+    ensures value { map (λ given. noted given.0) result.items ≡ map noted changes.now }
+{
+    let mut log = Log::new();
+    for of_arch in changes {
+        log = log.and(of_arch, &());
+    }
+    log
 }
 
 /// The time in UTC to the second, as RFC 3339 writes it; none if the clock shows none, or there is

@@ -178,12 +178,13 @@ pub(crate) fn act<S: Alter + Drop>(rt: &HostRuntime, office: &mut Office<S>, wor
     }
 }
 
-/// The office with its journal in this file.
+/// The office with its journal in this file, which has what merges and reports change.
 fn journaled<'a, S: Alter + Drop>(
     rt: &'a HostRuntime,
     office: &'a mut Office<S>,
     file: &'a str,
 ) -> Journaled<'a, Office<S>, FileJournal<'a>> {
+    office.note_changes();
     Journaled::new(office, FileJournal::new(rt, file))
 }
 

@@ -1,14 +1,19 @@
 -- No number of a command is a float, so its text is that of its object.
-use Rattle.std.proofs.Common.{◌≡◌, List, [], ◌∷◌, map, false, refl}
+use Rattle.std.proofs.Common.{◌≡◌, List, [], ◌∷◌, false, refl}
 use Rattle.std.specs.Prelude.{ℕ, ℤ, Option, None, Some, pos, negsuc}
 use Rattle.serde_json.specs.Find.{is_float, of_integer}
-use Rattle.serde_json.specs.View.{items_of}
-use Rattle.serde_json.specs.Written.{has_float, items_have_float}
+use Rattle.serde_json.specs.Written.{compact_text, has_float, items_have_float}
+use Rattle.wb_merge.specs.declared.changes.ArchChanges.{ArchChanges}
 use Rattle.wb_states.specs.declared.command.Command.{Command}
-use Rattle.wb_states.specs.declared.command.Command.TheVariants.{AddArch, AddBuilder, Enter, Next, Take, Built, Uploaded, Waits, PutBack, Attempted, GiveBack, DepWait, Fail, NotForUs, Rebuild, BuildPriority, Merge, Report}
+use Rattle.wb_states.specs.declared.command.Command.TheVariants.{AddArch, AddBuilder, Attempted, BuildPriority, Built}
+use Rattle.wb_states.specs.declared.command.Command.TheVariants.{DepWait, Enter, Fail, GiveBack, Merge, Next}
+use Rattle.wb_states.specs.declared.command.Command.TheVariants.{NotForUs, PutBack, Rebuild, Report, Take}
+use Rattle.wb_states.specs.declared.command.Command.TheVariants.{Uploaded, Waits}
+use Rattle.wb_states.specs.declared.command.Merge.{Merge as AnyMerge}
 use Rattle.wb_states.specs.declared.command.Part.{Part}
-use Rattle.wb_states.specs.declared.reply.PartReply.{PartReply}
-use Rattle.wb_journal.specs.Commands.{number_or_null, part_value, value_of_command, value_of_merged, values_of_parts}
+use Rattle.wb_states.specs.declared.command.Report.{Report as AnyReport}
+use Rattle.wb_journal.specs.Commands.{number_or_null, value_of_command, values_of_parts}
+use Rattle.wb_journal.specs.Entries.{object_text}
 
 is_float-of_integer : (z : ℤ) → is_float (of_integer z) ≡ false
 is_float-of_integer (pos n) = refl
@@ -43,12 +48,27 @@ has_float-value_of_command (BuildPriority given) = rw (is_float-of_integer given
 has_float-value_of_command (Merge given) = rw (items_have_float-values_of_parts given.parts) refl
 has_float-value_of_command (Report given) = refl
 
-items_have_float-replies : (replies : List PartReply) → items_have_float (items_of (map (λ (reply : PartReply). part_value reply.arch) replies)) ≡ false
-items_have_float-replies [] = refl
-items_have_float-replies (reply ∷ replies) = items_have_float-replies replies
+pub ruleset floats_of_commands = (has_float-value_of_command)
 
--- nor is one of a merge, by its replies
-pub has_float-value_of_merged : (replies : List PartReply) → has_float (value_of_merged replies) ≡ false
-has_float-value_of_merged replies = rw (items_have_float-replies replies) refl
-
-pub ruleset floats_of_commands = (has_float-value_of_command, has_float-value_of_merged)
+-- the object of a command that is no merge and no report has its name and its arguments alone
+pub object-plain : (changes : List ArchChanges) (command : Command) → ((given : AnyMerge) → command ≡ Merge given → ⊥)
+    → ((given : AnyReport) → command ≡ Report given → ⊥)
+    → compact_text (value_of_command command) ≡ object_text changes command
+object-plain changes (AddArch given) merge report = refl
+object-plain changes (AddBuilder given) merge report = refl
+object-plain changes (Enter given) merge report = refl
+object-plain changes (Next given) merge report = refl
+object-plain changes (Take given) merge report = refl
+object-plain changes (Built given) merge report = refl
+object-plain changes (Uploaded given) merge report = refl
+object-plain changes (Waits given) merge report = refl
+object-plain changes (PutBack given) merge report = refl
+object-plain changes (Attempted given) merge report = refl
+object-plain changes (GiveBack given) merge report = refl
+object-plain changes (DepWait given) merge report = refl
+object-plain changes (Fail given) merge report = refl
+object-plain changes (NotForUs given) merge report = refl
+object-plain changes (Rebuild given) merge report = refl
+object-plain changes (BuildPriority given) merge report = refl
+object-plain changes (Merge given) merge report = absurd (merge given refl)
+object-plain changes (Report given) merge report = absurd (report given refl)

@@ -1,2 +1,3 @@
 pub mod AskerLemmas
+pub mod ChangeLemmas
 pub mod EntryLemmas

@@ -5,11 +5,13 @@ use Rattle.serde_json.specs.Data.{Data, Items, null, number, unsigned, string, a
 use Rattle.serde_json.specs.Find.{of_integer}
 use Rattle.serde_json.specs.View.{items_of}
 use Rattle.wb_states.specs.declared.command.Command.{Command}
-use Rattle.wb_states.specs.declared.command.Command.TheVariants.{AddArch, AddBuilder, Enter, Next, Take, Built, Uploaded, Waits, PutBack, Attempted, GiveBack, DepWait, Fail, NotForUs, Rebuild, BuildPriority, Merge, Report}
+use Rattle.wb_states.specs.declared.command.Command.TheVariants.{AddArch, AddBuilder, Enter, Next, Take, Built}
+use Rattle.wb_states.specs.declared.command.Command.TheVariants.{Uploaded, Waits, PutBack, Attempted, GiveBack}
+use Rattle.wb_states.specs.declared.command.Command.TheVariants.{DepWait, Fail, NotForUs, Rebuild, BuildPriority}
+use Rattle.wb_states.specs.declared.command.Command.TheVariants.{Merge, Report}
 use Rattle.wb_states.specs.declared.command.Held.{Held}
 use Rattle.wb_states.specs.declared.command.Part.{Part}
 use Rattle.wb_states.specs.declared.command.SetAside.{SetAside}
-use Rattle.wb_states.specs.declared.reply.PartReply.{PartReply}
 
 -- the value of a number that may be missing
 abbrev pub number_or_null : Option ℕ → Data
@@ -57,10 +59,6 @@ abbrev pub merge_value : Items → Data
 merge_value parts = object
     (member (codes "command") (string (codes "merge"))
     (member (codes "parts") (array parts) no_members))
-
--- the object of a merge that was accepted with this reply, by the architectures of its parts
-abbrev pub value_of_merged : List PartReply → Data
-value_of_merged replies = merge_value (items_of (map (λ reply. part_value reply.arch) replies))
 
 -- the object of a command: its name and its arguments; of a merge the architectures, and of a report how many bytes it
 -- has

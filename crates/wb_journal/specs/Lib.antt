@@ -1,3 +1,4 @@
 pub mod Appended
+pub mod Changes
 pub mod Commands
 pub mod Entries

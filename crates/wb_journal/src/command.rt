@@ -1,14 +1,19 @@
 //! Commands as the objects of a journal, with their arguments by name.
 ghost use Rattle.std.specs.Prelude.{◌≡◌, codes, map, IfOk};
 ghost use Rattle.serde_json.specs.View.{items_of, view};
-ghost use Rattle.wb_journal.specs.Commands.{merge_value, named_value, noted_value, number_or_null, part_value, value_of_command, value_of_held, value_of_merged, value_of_part};
-ghost use Rattle.wb_states.specs.declared.command.Command.TheVariants.{AddArch, AddBuilder, Attempted, BuildPriority};
-ghost use Rattle.wb_states.specs.declared.command.Command.TheVariants.{DepWait, Enter, Merge, Next, Rebuild, Report, Take, Waits};
+ghost use Rattle.wb_journal.specs.Commands.{merge_value, named_value, noted_value, number_or_null};
+ghost use Rattle.wb_journal.specs.Commands.{part_value, value_of_command, value_of_held};
+ghost use Rattle.wb_journal.specs.Commands.{value_of_part};
+ghost use Rattle.wb_states.specs.declared.command.Command.TheVariants.{AddArch, AddBuilder};
+ghost use Rattle.wb_states.specs.declared.command.Command.TheVariants.{Attempted, BuildPriority};
+ghost use Rattle.wb_states.specs.declared.command.Command.TheVariants.{DepWait, Enter, Merge};
+ghost use Rattle.wb_states.specs.declared.command.Command.TheVariants.{Next, Rebuild, Report};
+ghost use Rattle.wb_states.specs.declared.command.Command.TheVariants.{Take, Waits};
 
 use deb_text::Text;
 use serde_json::{Value, json};
 use std::alloc::{AllocError, Global};
-use wb_states::{Command, Part, PartReply, command};
+use wb_states::{Command, Part, command};
 
 /// The object of a command: its name under `command`, and its arguments under the names that they
 /// have in the body of a request. A merge has its architectures alone, and a report the number of
@@ -247,18 +252,6 @@ fn part_value(alloc: Global, arch: &Text) -> Result<Value, AllocError>
     ensures { IfOk result (λ value. view value ≡ part_value arch.now) }
 {
     json!(in alloc; {"arch": arch.as_str()})
-}
-
-/// The object of a merge that was accepted, by the replies to its parts: it has their
-/// architectures.
-pub(crate) fn value_of_merged(alloc: Global, replies: &[PartReply]) -> Result<Value, AllocError>
-    ensures value { IfOk result (λ value. view value ≡ value_of_merged replies.now) }
-{
-    let mut values = Vec::new(alloc);
-    for reply in replies {
-        values.push(part_value(alloc, &reply.arch)?)?;
-    }
-    merge_value(alloc, values)
 }
 
 fn value_of_report(alloc: Global, given: &command::Report) -> Result<Value, AllocError>

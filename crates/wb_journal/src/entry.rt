@@ -1,18 +1,21 @@
 //! The lines of a journal.
-ghost use Rattle.std.specs.Prelude.{◌≡◌, option_map, IfOk};
+ghost use Rattle.std.specs.Prelude.{◌≡◌, ◌++◌, option_map, IfOk, OnOk};
 ghost use Rattle.std.specs.String.{string_bytes};
 ghost use Rattle.serde_json.specs.Written.{compact_text};
-ghost use Rattle.serde_json.specs.Data.{Data};
-ghost use Rattle.wb_journal.specs.Commands.{value_of_command, value_of_merged};
-ghost use Rattle.wb_journal.specs.Entries.{accepted_of, by_text, entry_text, line_text, merge_text, parts_of};
-ghost use Rattle.wb_journal.specs.Entries.{time_text};
+ghost use Rattle.wb_journal.specs.Changes.{merge_object_text, parts_text, replies_text};
+ghost use Rattle.wb_journal.specs.Commands.{value_of_command};
+ghost use Rattle.wb_journal.specs.Entries.{accepted_of, by_text, entry_text, line_text};
+ghost use Rattle.wb_journal.specs.Entries.{merge_text, object_text};
+ghost use Rattle.wb_journal.specs.Entries.{parts_of, time_text};
 
-use crate::command::{value_of_command, value_of_merged};
+use crate::changes::{push_part, report_json};
+use crate::command::value_of_command;
 use itoa::Buffer;
 use serde_json::Value;
 use std::alloc::{AllocError, Global};
 use wb_api::reply_json;
-use wb_states::{Command, PartReply, Reply};
+use wb_merge::ArchChanges;
+use wb_states::{Command, Part, PartReply, Reply};
 
 /// The line of a journal for a command that was accepted at this time, with its reply: a JSON
 /// object (RFC 8259) without a space, and a line feed.
@@ -21,20 +24,23 @@ use wb_states::{Command, PartReply, Reply};
 /// as it is answered, under `by` the name of who gave the command, and no such member if that is
 /// not known, under `command` the command's name and its arguments, and under `time` the time,
 /// `null` if the clock showed none. A merge has the architectures of its parts alone, and a report
-/// the number of its bytes. The only error is that there is no memory for the text. The keys are
-/// this project's own.
+/// the number of its bytes; each of these architectures has under `changes` what was changed there,
+/// and no such member if that is not known: for each record that differs an array of its source
+/// package, its state before, its state after and its version after, `null` for those of no record.
+/// The only error is that there is no memory for the text. The keys are this project's own.
 pub fn entry_line(
     alloc: Global,
     by: Option<&str>,
     time: Option<&str>,
+    changes: &[ArchChanges],
     command: &Command,
     reply: &Reply,
 ) -> Result<String, AllocError>
     ensures value { IfOk result (λ line. string_bytes line
         ≡ entry_text (option_map (λ name. name.now) by.entry) (option_map (λ time. time.now) time.entry)
-        command.now reply.now) }
+        changes.now command.now reply.now) }
 {
-    let object = command_json(alloc, command)?;
+    let object = command_json(alloc, changes, command)?;
     line_of(alloc, by, time, command.name(), object.as_str(), reply)
 }
 
@@ -45,12 +51,14 @@ pub fn merge_entry_line(
     alloc: Global,
     by: Option<&str>,
     time: Option<&str>,
+    changes: &[ArchChanges],
     reply: &Reply,
 ) -> Result<String, AllocError>
     ensures value { IfOk result (λ line. string_bytes line
-        ≡ merge_text (option_map (λ name. name.now) by.entry) (option_map (λ time. time.now) time.entry) reply.now) }
+        ≡ merge_text (option_map (λ name. name.now) by.entry) (option_map (λ time. time.now) time.entry)
+        changes.now reply.now) }
 {
-    let object = merged_json(alloc, parts_of(reply))?;
+    let object = merged_json(alloc, changes, parts_of(reply))?;
     line_of(alloc, by, time, "merge", object.as_str(), reply)
 }
 
@@ -74,9 +82,9 @@ fn line_of(
     object: &str,
     reply: &Reply,
 ) -> Result<String, AllocError>
-    ensures value { IfOk result (λ line. (value : Data) → object.now ≡ compact_text value → string_bytes line
+    ensures value { IfOk result (λ line. string_bytes line
         ≡ line_text (option_map (λ name. name.now) by.entry) (option_map (λ time. time.now) time.entry)
-        name.now value reply.now) }
+        name.now object.now reply.now) }
 {
     let mut line = String::from_str(alloc, "{\"accepted\":")?;
     line.push_str(Buffer::new().format(accepted_of(reply)))?;
@@ -104,22 +112,98 @@ fn accepted_of(reply: &Reply) -> u64
     }
 }
 
-/// The object of a command as text.
+/// The object of a command as text, with what it changed, if that is known.
+fn command_json(
+    alloc: Global,
+    changes: &[ArchChanges],
+    command: &Command,
+) -> Result<String, AllocError>
+    ensures { IfOk result (λ text. string_bytes text ≡ object_text changes.now command.now) }
+{
+    match command {
+        Command::Merge(merge) => merge_json(alloc, changes, merge.parts.as_slice()),
+        Command::Report(report) => report_json(alloc, report, changes),
+        _ => plain_json(alloc, command),
+    }
+}
+
+/// The object of a command with nothing but its name and its arguments, as text.
 #[tactic(auto, using(crate::proofs::EntryLemmas::floats_of_commands))]
-fn command_json(alloc: Global, command: &Command) -> Result<String, AllocError>
+fn plain_json(alloc: Global, command: &Command) -> Result<String, AllocError>
     ensures { IfOk result (λ text. string_bytes text ≡ compact_text (value_of_command command.now)) }
 {
     let value = value_of_command(alloc, command)?;
     value.to_string(alloc)
 }
 
-/// The object of a merge that was accepted, as text, by the replies to its parts.
-#[tactic(auto, using(crate::proofs::EntryLemmas::floats_of_commands))]
-fn merged_json(alloc: Global, replies: &[PartReply]) -> Result<String, AllocError>
-    ensures { IfOk result (λ text. string_bytes text ≡ compact_text (value_of_merged replies.now)) }
+/// The object of a merge with these parts, as text, with what each changed, if that is known.
+#[tactic(auto, unfolding(crate::specs::Changes::merge_object_text))]
+fn merge_json(alloc: Global, changes: &[ArchChanges], parts: &[Part]) -> Result<String, AllocError>
+    ensures { IfOk result (λ text. string_bytes text
+        ≡ merge_object_text (parts_text changes.now parts.now)) }
 {
-    let value = value_of_merged(alloc, replies)?;
-    value.to_string(alloc)
+    let mut out = String::from_str(alloc, "{\"command\":\"merge\",\"parts\":[")?;
+    push_parts(alloc, &mut out, changes, parts)?;
+    out.push_str("]}")?;
+    Ok(out)
+}
+
+/// Appends the objects of the parts of a merge.
+#[tactic(auto, unfolding(crate::specs::Changes::parts_text))]
+fn push_parts(
+    alloc: Global,
+    out: &mut String,
+    changes: &[ArchChanges],
+    parts: &[Part],
+) -> Result<(), AllocError>
+    ensures ok { OnOk result (string_bytes out.new
+        ≡ string_bytes out.old ++ parts_text changes.now parts.now) }
+{
+    if let [first, others @ ..] = parts {
+        push_part(alloc, out, &first.arch, changes)?;
+        for part in others {
+            out.push_str(",")?;
+            push_part(alloc, out, &part.arch, changes)?;
+        }
+    }
+    Ok(())
+}
+
+/// The object of a merge that was accepted, as text, by the replies to its parts.
+#[tactic(auto, unfolding(crate::specs::Changes::merge_object_text))]
+fn merged_json(
+    alloc: Global,
+    changes: &[ArchChanges],
+    replies: &[PartReply],
+) -> Result<String, AllocError>
+    ensures { IfOk result (λ text. string_bytes text
+        ≡ merge_object_text (replies_text changes.now replies.now)) }
+{
+    let mut out = String::from_str(alloc, "{\"command\":\"merge\",\"parts\":[")?;
+    push_replies(alloc, &mut out, changes, replies)?;
+    out.push_str("]}")?;
+    Ok(out)
+}
+
+/// Appends the objects of the parts of a merge to which these are the replies.
+#[tactic(auto, unfolding(crate::specs::Changes::replies_text))]
+fn push_replies(
+    alloc: Global,
+    out: &mut String,
+    changes: &[ArchChanges],
+    replies: &[PartReply],
+) -> Result<(), AllocError>
+    ensures ok { OnOk result (string_bytes out.new
+        ≡ string_bytes out.old ++ replies_text changes.now replies.now) }
+{
+    if let [first, others @ ..] = replies {
+        push_part(alloc, out, &first.arch, changes)?;
+        for reply in others {
+            out.push_str(",")?;
+            push_part(alloc, out, &reply.arch, changes)?;
+        }
+    }
+    Ok(())
 }
 
 /// The text of a time, or `null`.

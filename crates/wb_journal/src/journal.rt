@@ -1,11 +1,13 @@
 //! The layer around an office that writes its journal.
-ghost use Rattle.std.specs.Prelude.{◌≡◌, ◌↔◌, ◌∷◌, ◌++◌, List, [], Err, IfErr, IfOk, None, Ok, Some, false, true};
+ghost use Rattle.std.specs.Prelude.{◌≡◌, ◌↔◌, ◌∷◌, ◌++◌, List, [], Err, IfErr, IfOk, None, Ok};
+ghost use Rattle.std.specs.Prelude.{Some, false, map, true};
 ghost use Rattle.std.specs.Option.{option_copied};
 ghost use Rattle.wb_archive.specs.Readers.{IsMergeOf, MayLeave, archs_refusal};
-ghost use Rattle.wb_journal.specs.Appended.{Entry, asker_of, entries_of_command, entries_of_merge, is_new};
-ghost use Rattle.wb_journal.specs.Appended.{merge_of_readers};
+ghost use Rattle.wb_journal.specs.Appended.{Entry, asker_of, entries_of_command, entries_of_merge};
+ghost use Rattle.wb_journal.specs.Appended.{is_new, merge_of_readers, noted};
 ghost use Rattle.wb_states.specs.declared.refusal.Refusal.{Refusal as AnyRefusal};
-ghost use Rattle.wb_states.specs.declared.refusal.Refusal.TheVariants.{Closed, Memory, Store as OfStore};
+ghost use Rattle.wb_states.specs.declared.refusal.Refusal.TheVariants.{Closed, Memory};
+ghost use Rattle.wb_states.specs.declared.refusal.Refusal.TheVariants.{Store as OfStore};
 ghost use Rattle.wb_states.specs.declared.store_fault.StoreFault.{StoreFault};
 ghost use Rattle.wb_states.specs.Holds.{holder_of};
 ghost use Rattle.wb_states.specs.Machine.{Machine};
@@ -18,7 +20,8 @@ ghost use Rattle.wb_step.specs.Step.{step};
 use crate::Asker;
 use deb_text::Text;
 use std::io::BufRead;
-use wb_archive::{ArchList, MergeFrom};
+use wb_archive::{ArchList, MergeFrom, TellChanges};
+use wb_merge::ArchChanges;
 use wb_states::{Answer, Command, Query, Refusal, Reply};
 use wb_step::CarryOut;
 
@@ -26,28 +29,39 @@ use wb_step::CarryOut;
 /// nothing of the office depends on it (this project's own).
 pub trait Journal {
     // The entries that were given, the oldest first: commands that an office accepted, each with
-    // who gave it and its reply.
+    // who gave it, its reply and what it changed.
     ghost entries: { Self → List Entry };
 
-    /// Appends the entry of a command that the office accepted, and committed, with who gave it and
-    /// its reply.
-    fn append(&mut self, by: &Asker, command: &Command, reply: &Reply)
+    /// Appends the entry of a command that the office accepted, and committed, with who gave it,
+    /// its reply, and what it changed, architecture by architecture, or nothing if that is not
+    /// known.
+    fn append(&mut self, by: &Asker, command: &Command, reply: &Reply, changes: &[ArchChanges])
         ensures appended { entries self.new ≡ entries self.old
-            ++ record { by = by.now; command = command.now; reply = reply.now } ∷ [] };
+            ++ record {
+              by = by.now;
+              command = command.now;
+              reply = reply.now;
+              changes = map noted changes.now;
+            } ∷ [] };
 
     /// Appends the entry of a merge of lists that readers gave, which the office accepted, and
-    /// committed, with who gave it and its reply.
-    fn append_merge(&mut self, by: &Asker, reply: &Reply)
+    /// committed, with who gave it, its reply and what it changed.
+    fn append_merge(&mut self, by: &Asker, reply: &Reply, changes: &[ArchChanges])
         ensures appended { entries self.new ≡ entries self.old
-            ++ record { by = by.now; command = merge_of_readers; reply = reply.now } ∷ [] };
+            ++ record {
+              by = by.now;
+              command = merge_of_readers;
+              reply = reply.now;
+              changes = map noted changes.now;
+            } ∷ [] };
 }
 
 /// An office that has each command that it accepts appended to a journal once it is committed, with
-/// who gave it as it was told last. It promises what the office promises. A retry, which is
-/// answered with what the builder has already, is no new command and has no entry (this project's
-/// own).
+/// who gave it as it was told last, and with what the office tells of its changes. It promises what
+/// the office promises. A retry, which is answered with what the builder has already, is no new
+/// command and has no entry (this project's own).
 #[derive(Drop)]
-pub struct Journaled<'a, O: CarryOut, J: Journal + Drop> {
+pub struct Journaled<'a, O: TellChanges, J: Journal + Drop> {
     office: &'a mut O,
     /// The journal.
     pub journal: J,
@@ -55,7 +69,7 @@ pub struct Journaled<'a, O: CarryOut, J: Journal + Drop> {
     pub by: Asker,
 }
 
-impl<'a, O: CarryOut, J: Journal + Drop> Journaled<'a, O, J> {
+impl<'a, O: TellChanges, J: Journal + Drop> Journaled<'a, O, J> {
     /// The office with its journal, and nobody who is known to give commands. Takes no memory.
     pub fn new(office: &'a mut O, journal: J) -> Self
         ensures value { result.journal ≡ journal }
@@ -76,7 +90,7 @@ fn is_new(reply: &Reply) -> bool
     !matches!(reply, Reply::Again { .. })
 }
 
-impl<'a, O: CarryOut, J: Journal + Drop> CarryOut for Journaled<'a, O, J> {
+impl<'a, O: TellChanges, J: Journal + Drop> CarryOut for Journaled<'a, O, J> {
     ghost is_clean = { λ journaled. O.CarryOut.is_clean journaled.office.now };
 
     ghost stands_at = { λ journaled machine. O.CarryOut.stands_at journaled.office.now machine };
@@ -105,7 +119,8 @@ impl<'a, O: CarryOut, J: Journal + Drop> CarryOut for Journaled<'a, O, J> {
         ensures stands { ¬ O.CarryOut.is_closed self.old.office.now
             → StandsOn (O.CarryOut.is_closed self.new.office.now) result }
         ensures entries { J.Journal.entries self.new.journal
-            ≡ J.Journal.entries self.old.journal ++ entries_of_command self.old.by command.now result }
+            ≡ J.Journal.entries self.old.journal ++ entries_of_command self.old.by command.now
+            (O.TellChanges.told self.new.office.now) result }
         ensures by { self.new.by ≡ self.old.by }
         // at each state at which the office stands
         ensures clean { O.CarryOut.is_clean self.new.office.now → O.CarryOut.is_clean self.old.office.now }
@@ -138,7 +153,8 @@ impl<'a, O: CarryOut, J: Journal + Drop> CarryOut for Journaled<'a, O, J> {
         let answer = self.office.carry_out(command);
         if let Ok(reply) = &answer {
             if is_new(reply) {
-                self.journal.append(&self.by, command, reply);
+                self.journal
+                    .append(&self.by, command, reply, self.office.changes());
             }
         }
         answer
@@ -240,7 +256,7 @@ impl<'a, O: CarryOut, J: Journal + Drop> CarryOut for Journaled<'a, O, J> {
     ghost consistent = { λ journaled machine stands. O.CarryOut.consistent journaled.office.now machine stands };
 }
 
-impl<'a, O: MergeFrom, J: Journal + Drop> MergeFrom for Journaled<'a, O, J> {
+impl<'a, O: MergeFrom + TellChanges, J: Journal + Drop> MergeFrom for Journaled<'a, O, J> {
     // It promises what its office promises, of the same states, and has an entry more for a merge
     // that was accepted.
     fn merge_from<R: BufRead + Drop>(
@@ -257,7 +273,8 @@ impl<'a, O: MergeFrom, J: Journal + Drop> MergeFrom for Journaled<'a, O, J> {
         ensures names { ¬ O.CarryOut.is_closed self.old.office.now → (refusal : AnyRefusal)
             → archs_refusal parts.items ≡ Some refusal → result ≡ Err refusal }
         ensures entries { J.Journal.entries self.new.journal
-            ≡ J.Journal.entries self.old.journal ++ entries_of_merge self.old.by result }
+            ≡ J.Journal.entries self.old.journal ++ entries_of_merge self.old.by
+            (O.TellChanges.told self.new.office.now) result }
         ensures by { self.new.by ≡ self.old.by }
         // at each state at which the office stands
         ensures clean { O.CarryOut.is_clean self.new.office.now → O.CarryOut.is_clean self.old.office.now }
@@ -290,7 +307,8 @@ impl<'a, O: MergeFrom, J: Journal + Drop> MergeFrom for Journaled<'a, O, J> {
     {
         let answer = self.office.merge_from(sources, parts);
         if let Ok(reply) = &answer {
-            self.journal.append_merge(&self.by, reply);
+            self.journal
+                .append_merge(&self.by, reply, self.office.changes());
         }
         answer
     }

@@ -3,6 +3,7 @@
 #![tactic(auto)]
 
 mod asker;
+mod changes;
 mod command;
 mod entry;
 mod journal;
