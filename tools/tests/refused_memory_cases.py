@@ -96,6 +96,18 @@ def rows(handed, accepted, *records, archs=ARCHS, builders=BUILDERS):
     return [("office", 1, 2, handed, accepted), *others, *records]
 
 
+def changes(before, after):
+    """What differs between the rows of two offices, as a line of a journal has it, by architectures."""
+    old, new = ({row[1:3]: row for row in rows if row[0] == "source_record"} for rows in (before, after))
+    found = {}
+    for arch, source in sorted({*old, *new}):
+        was, now = old.get((arch, source)), new.get((arch, source))
+        if was != now:
+            states = [row and STATES[row[3]] for row in (was, now)]
+            found.setdefault(arch, []).append([source, *states, now and now[4]])
+    return found
+
+
 HELLO = ("amd64", "hello", "1.0", "optional", "devel")
 TAR = ("amd64", "tar", "1.30", "required", "admin")
 OTHER = ("arm64", "hello", "1.0", "optional", "devel")

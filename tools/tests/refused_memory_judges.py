@@ -9,7 +9,7 @@ from dataclasses import dataclass
 
 from harness import Failure, expect
 from refused_memory_cases import CLOSED, FILE_FAULT, IN_DOUBT, LINE_FAULT, MEMORY, MEMORY_FAULT, MINE_OF_TAR
-from refused_memory_cases import accepted, answered
+from refused_memory_cases import accepted, answered, changes
 
 # How a trial ended, in a word.
 AS_AMPLE, OUT_OF_MEMORY, CLOSED_BY_IT = "needless", "answered Memory", "answered Memory and closed"
@@ -89,6 +89,19 @@ def journal_end(case, word, end, entries):
     )
     if is_lost and len(wanted) > 1:
         expect(AGAIN in end.said, f"it is not said that an entry lacks: {end.said!r}")
+
+
+def journal_changes(case, lines, is_refused):
+    """Fails unless each line of a merge or a report says what it changed, which is nothing if it was asked again, and
+    no other line does. Only the first may say nothing of it, if memory was refused."""
+    for line in lines:
+        command, is_first = line["command"], line["accepted"] == json.loads(case.first)["accepted"]
+        is_told = command["command"] in ("merge", "report")
+        wanted = changes(*case.rows) if is_told and is_first else {}
+        for part in command.get("parts", [command]):
+            met = part.get("changes")
+            is_right = met == wanted.get(part["arch"], []) if is_told else met is None
+            expect(is_right or met is None and is_first and is_refused, f"{met} in place of {wanted} in {line}")
 
 
 @dataclass(frozen=True)

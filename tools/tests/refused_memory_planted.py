@@ -125,6 +125,33 @@ def of_refused_journal():
     return Planted(lambda end: judges.journal_end(LINES["not-held"], *end), [(AS_AMPLE, end, [])], wrong)
 
 
+def of_changes():
+    """What the journal says of a merge and of the same merge asked again, and whether memory was refused."""
+    hello, new = ["hello", "Needs-Build", "Needs-Build", "1.1"], ["new", None, "Needs-Build", "2.0"]
+    amd64 = [hello, new, ["tar", "Needs-Build", "Installed", "1.30"]]
+    arm64 = [hello, new, ["tar", None, "Needs-Build", "1.30"]]
+
+    def line(count, **told):
+        parts = [{"arch": arch} | ({"changes": told[arch]} if arch in told else {}) for arch in ("amd64", "arm64")]
+        return {"accepted": count, "command": {"command": "merge", "parts": parts}}
+
+    told, again, silent = line(8, amd64=amd64, arm64=arm64), line(9, amd64=[], arm64=[]), line(8)
+    right = [([told, again], False), ([told, again], True), ([silent, again], True), ([again], True), ([], True)]
+    wrong = [
+        # nothing is said, and memory was not refused, or not to this merge
+        ([silent, again], False), ([told, line(9)], True), ([line(8, amd64=amd64), again], False),
+        # a record lacks, is there that was kept, or is that of another architecture
+        ([line(8, amd64=amd64[:2], arm64=arm64), again], True), ([told, line(9, amd64=amd64, arm64=[])], False),
+        ([line(8, amd64=arm64, arm64=amd64), again], True), ([line(8, amd64=amd64[::-1], arm64=arm64)], True),
+        # a state or the version is another
+        ([line(8, amd64=[*amd64[:2], ["tar", "Installed", "Needs-Build", "1.30"]], arm64=arm64)], True),
+        ([line(8, amd64=[["hello", "Needs-Build", "Needs-Build", "1.0"], *amd64[1:]], arm64=arm64)], True),
+        # another command has changes
+        ([{"accepted": 8, "command": {"arch": "amd64", "changes": [], "command": "next"}}], True),
+    ]
+    return Planted(lambda end: judges.journal_changes(LINES["merge"], *end), right, wrong)
+
+
 def of_memory():
     """The ends of `next` over tables in memory."""
     ample, full = MemoryEnd(NEXT_TAR, MINE_OF_TAR, NEXT_HELLO, 0), MemoryEnd(MEMORY, MINE, NEXT_TAR, 1)
@@ -355,6 +382,7 @@ def planted():
     """All kinds, by their names."""
     found = {f"line-{name}": of_line(name) for name in WRONG_LINES}
     found |= {"journal-next": of_journal(), "journal-not-held": of_refused_journal(), "memory-next": of_memory()}
+    found["journal-merge"] = of_changes()
     found["request-post-next"] = of_request("post-next", wrong_post_next)
     found["request-post-again"] = of_request("post-again", wrong_post_again)
     found["request-get-mine"] = of_request("get-mine", wrong_get_mine)

@@ -136,10 +136,10 @@ def rows_in(folder, tables=TABLES, name="store"):
             return found
 
 
-def entries_in(journal):
-    """The answers in a journal, of which there may be none."""
+def lines_in(journal):
+    """The lines of a journal, of which there may be none."""
     lines = journal.read_text(encoding="utf-8").splitlines() if journal.exists() else []
-    return [json.loads(line)["answer"] for line in lines]
+    return [json.loads(line) for line in lines]
 
 
 def make_database(path, sql):

@@ -626,7 +626,7 @@ def reads_what_the_program_writes(folder):
         "next amd64 b1 --after 0\nnext amd64 b1\nattempted 2 cc died\nbuilt 1\nuploaded 1\ngive-back amd64 hello 1.0\n"
         "fail amd64 tar 1.30 no\n"
     )
-    (folder / "sources").write_text("Package: hello\nVersion: 1.0\nArchitecture: any\n\n")
+    (folder / "sources").write_text("Package: hello\nVersion: 1.0\nArchitecture: any\nSection: admin\n\n")
     (folder / "packages").write_text("")
     lines += "merge sources amd64=packages\n"
     begun = int(time.time())
@@ -637,8 +637,11 @@ def reads_what_the_program_writes(folder):
     rows = [json.loads(line) for line in call(folder, "journal", "package", "amd64", "hello", "--json").splitlines()]
     wanted = [
         ("enter", "Needs-Build"), ("next", "Building"), ("attempted", "Build-Attempted"), ("give-back", "Needs-Build"),
+        ("merge", "Needs-Build"),
     ]
     expect([(row["command"], row["state"]) for row in rows] == wanted, f"{rows}")
+    met = [json.loads(line) for line in call(folder, "journal", "package", "amd64", "tar", "--json").splitlines()][-1]
+    expect((met["command"], met["was"], met["state"]) == ("merge", "Uploaded", "removed"), f"{met}")
     expect(rows[2]["text"] == "cc died" and rows[2]["builder"] == "b1", f"{rows[2]}")
     with contextlib.suppress(ValueError):
         expect(

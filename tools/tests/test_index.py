@@ -16,7 +16,7 @@ import time
 
 from harness import expect, main
 from test_history import NOW, Journal, call, example, on
-from wb_tools.index import tables
+from wb_tools.index import reading, tables, writing
 from wb_tools.index.asking import Index, Since
 from wb_tools.index.reading import read_on, read_whole
 from wb_tools.journal import read_line, seconds_of
@@ -55,6 +55,9 @@ def named():
     one.merge(on(5, "09:00:00"), ("amd64", second))
     one.merge(on(6, "09:00:00"), ("amd64", [["hello", "Needs-Build", "Needs-Build", "1.0-3"]]))
     return one
+
+
+STAYS = '["gcc-14","Dep-Wait","Dep-Wait","14.2"]'  # a change of another field
 
 
 def index_of(journal):
@@ -99,6 +102,63 @@ def merges_and_reports_name_what_they_moved(folder):
     expect(met[0] == "7 moves into states" and met[2].split() == "2026-04-02 1 0 0 0 2 0 0 0 0 0".split(), f"{met}")
     met = call(folder, "journal", "ages", "--state", "Installed")
     expect("zlib" in met and "2026-04-02 08:00:00" in met and "tar" not in met, met)
+    rows = call(folder, "journal", "package", "amd64", "hello", "--merges", "--json").splitlines()
+    met = [(row["accepted"], row["command"], row["was"], row["text"]) for row in map(json.loads, rows)]
+    counts = "added 0, changed 1, kept 1, removed 0"
+    wanted = [
+        (3, "merge", "", counts), (4, "report", "Needs-Build", "changed 1"),
+        (5, "report", "BD-Uninstallable", "changed 1"), (6, "next", None, ""), (7, "merge", "Building", counts),
+        (8, "merge", "Needs-Build", counts),
+    ]
+    expect(met == wanted, f"a merge that moved it has no row of its own: {met}")
+    met = call(folder, "journal", "package", "amd64", "zlib", "--merges", "--json").splitlines()
+    expect([json.loads(row)["accepted"] for row in met] == [3, 4, 5, 7, 8], f"{met}")
+
+
+def keeps_a_build_that_a_merge_leaves(_folder):
+    """A merge that changes another field of what builds, and one of another package, end no build; what ends it is its
+    holder's report. A merge that finds it in the archive ends it, and so does one that removes it."""
+    one = named()
+    one.hand_out(on(7, "08:00:00"), "b1", "hello", "1.0-3")
+    changes = [["hello", "Building", "Building", "1.0-3"], ["zlib", "Installed", None, None]]
+    one.merge(on(7, "09:00:00"), ("amd64", changes))
+    one.merge(on(7, "09:30:00"), ("arm64", [["hello", None, "Needs-Build", "1.0-3"]]))
+    met = [build.result for build in index_of(one).builds(source="hello")]
+    expect(met == ["other", "building"], f"the build goes on: {met}")
+    expect_since(index_of(one), {("hello", "Building", 2): since(7, "08:00:00")})
+    for state in ("Installed", None):
+        other = named()
+        other.hand_out(on(7, "08:00:00"), "b1", "hello", "1.0-3")
+        other.merge(on(7, "10:00:00"), ("amd64", [["hello", "Building", state, state and "1.0-3"]]))
+        last = list(index_of(other).builds(source="hello"))[-1]
+        expect((last.result, last.command, last.took, last.ended) ==
+               ("other", "merge", None, seconds_of(on(7, "10:00:00"))), f"{last}")
+    one.add(on(7, "10:00:00"), "uploaded", take=2)
+    last = list(index_of(one).builds(source="hello"))[-1]
+    expect((last.result, last.took) == ("built", 7200), f"{last}")
+
+
+def keeps_what_was_said_of_a_state(folder):
+    """A merge that changes another field of what waits or is held leaves its note, its holder and its time; and a
+    version that it changes is the new one."""
+    one = named()
+    one.add(on(7, "08:00:00"), "fail", arch="amd64", source="hello", version="1.0-3", note="no disk")
+    take = one.hand_out(on(7, "09:00:00"), "b1", "tar", "1.31")
+    one.add(on(7, "10:00:00"), "built", take=take)
+    changes = [["hello", "Failed", "Failed", "1.0-3"], ["tar", "Built", "Built", "1.31"]]
+    one.merge(on(8, "08:00:00"), ("amd64", [*changes, ["zlib", "Installed", "Installed", "2"]]))
+    (folder / "journal").write_bytes(one.data())
+    wanted = {
+        "hello": ("Failed", "1.0-3", on(7, "08:00:00"), "no disk", None),
+        "tar": ("Built", "1.31", on(7, "10:00:00"), "", "b1"),
+        "zlib": ("Installed", "2", on(2, "08:00:00"), "", None),
+    }
+    [failed] = call(folder, "journal", "ages", "--state", "Failed", "--json").splitlines()
+    [held] = call(folder, "journal", "ages", "--json").splitlines()
+    [there] = call(folder, "journal", "ages", "--state", "Installed", "--json").splitlines()
+    for row in map(json.loads, (failed, held, there)):
+        met = (row["state"], row["version"], row["since"], row["text"], row.get("builder"))
+        expect(met == wanted[row["source"]], f"{met}")
 
 
 def says_since_when(_folder):
@@ -144,6 +204,56 @@ def guesses_nothing(_folder):
         ("hello", "Needs-Build"): Since(seconds_of(on(5, "09:00:00")), False),
         ("tar", "Failed"): since(5, "09:00:00", False), ("tar", "Build-Attempted"): since(6, "09:00:00", False),
     })
+
+
+def asks_each_architecture_for_itself(_folder):
+    """Of the parts of a merge one may say what it changed, one not, and one be refused: of the first and the last all
+    is known, and what may have moved on the second is there since a time before."""
+    one, archs = named(), ("amd64", "arm64", "armhf")
+    one.merge(on(7, "08:00:00"), *((arch, [["tar", None, "Installed", "1.31"]]) for arch in archs))
+    refused = {"arch": "armhf", "code": 15, "fault": "NoColon", "paragraph": 1, "refused": "BadListing"}
+    parts = [{"arch": "amd64", "changes": [["tar", "Installed", "Needs-Build", "1.32"]]}, {"arch": "arm64"}]
+    counts = {"added": 0, "changed": 1, "kept": 3, "removed": 0}
+    answer = {"parts": [counts | {"arch": arch} for arch in archs[:2]] + [refused]}
+    one.add(on(9, "08:00:00"), "merge", answer, parts=[*parts, {"arch": "armhf"}])
+    index = index_of(one)
+    met = {arch: index.since((arch, "tar"), state) for arch, state in zip(archs, ("Needs-Build", *["Installed"] * 2))}
+    wanted = {"amd64": since(9, "08:00:00"), "arm64": since(9, "08:00:00", False), "armhf": since(7, "08:00:00")}
+    expect(met == wanted, f"{met}")
+    expect_since(index, {("zlib", "Installed"): since(2, "08:00:00")})
+    expect([one.accepted for one in index.imports("armhf")] == [9], f"{index.imports('armhf')}")
+    expect([index.is_doubted(index.imports(arch)[-1]) for arch in archs] == [False, True, False], "doubts")
+
+
+def doubts_what_is_before_a_gap(folder):
+    """Without an office to ask, what may have moved while lines are missing is marked, and nothing that was seen since;
+    an upload after a gap says of a build that it is done, and not how long it took. A package's history says that there
+    is a gap."""
+    one = example()
+    one.accepted += 1
+    one.add(on(12, "19:50:00"), "uploaded", take=4)
+    one.hand_out(on(12, "19:55:00"), "b1", "tar", "1.30")
+    (folder / "journal").write_bytes(one.data())
+    met = {}
+    for line in call(folder, "journal", "ages", "--json").splitlines():
+        row = json.loads(line)
+        met[row["arch"], row["source"]] = (row["may_have_moved"], row["merged"])
+    before, after = [("arm64", "zlib"), ("arm64", "tar"), ("amd64", "hello"), ("amd64", "gcc-14")], ["zlib", "tar"]
+    wanted = {key: (True, False) for key in before} | {("amd64", source): (False, False) for source in after}
+    expect(met == wanted, f"{met}")
+    expect("MAY HAVE MOVED" in call(folder, "journal", "ages"), "the marks have no column")
+    row = json.loads(call(folder, "journal", "builds", "--source", "zlib", "--arch", "amd64", "--json"))
+    expect((row["result"], row["took"]) == ("built", None), f"how long a build took is guessed: {row}")
+    met = call(folder, "journal", "package", "amd64", "hello").splitlines()[-1]
+    expect(met == "one gap of the journal may hide more of it; the question gaps shows where", met)
+    expect("gap" not in call(folder, "-", "package", "amd64", "hello", said=example().data()), "there is no gap")
+    one.merge(on(12, "20:00:00"), ("amd64", 1))
+    one.lines[-1] = one.lines[-1].replace('{"arch":"amd64"}', '{"arch":"amd64","changes":[%s]}' % STAYS)
+    for _ in range(2):
+        expect_since(index_of(one), {("gcc-14", "Dep-Wait"): since(12, "19:50:00", False)})
+        row = json.loads(call(folder, "-", "ages", "--state", "Dep-Wait", "--json", said=one.data()))
+        expect((row["since"], row["before"], row["may_have_moved"]) == (None, on(12, "19:50:01"), False), f"{row}")
+        one.add(on(12, "20:01:00"), "add-builder", name="b8", arch="amd64")
 
 
 def takes_odd_changes_for_none(_folder):
@@ -274,6 +384,33 @@ def forgets_what_a_copy_lacks(folder):
     expect([json.loads(line)["source"] for line in met] == ["tar"], f"{met}")
 
 
+def reads_long_lines_in_parts(folder):
+    """Lines of merges that change many records are committed part by part, each line whole, also if it is longer than
+    what is committed together; and what was before a restored copy is derived anew, part by part."""
+    one = Named()
+    for at in range(1, 5):
+        changes = [[f"s{number:05}", "Installed" if at > 1 else None, "Installed", f"{at}"] for number in range(6000)]
+        one.merge(on(at, "08:00:00"), ("amd64", changes))
+    data = one.data()
+    again = Named(accepted=3)
+    again.report(on(6, "08:00:00"), "amd64", [["s00000", "Installed", "Installed", "4"]])
+    (folder / "journal").write_bytes(data)
+    commits, kept = [], (reading.SIZE, writing.FLUSH)
+    connection = tables.open_to_write(folder / "journal.index")
+    connection.set_trace_callback(lambda said: commits.append(said) if said == "COMMIT" else None)
+    try:
+        reading.SIZE, writing.FLUSH = 300000, 1000
+        expect(not list(read_on(connection, folder / "journal")), "lines are amiss")
+        expect(len(commits) == 3, f"{len(commits)} transactions, of lines of {len(data) // 4} bytes")
+        with open(folder / "journal", "ab") as journal:
+            journal.write(again.data())
+        expect(not list(read_on(connection, folder / "journal")), "lines are amiss")
+    finally:
+        reading.SIZE, writing.FLUSH = kept
+    connection.close()
+    expect_same(folder, data + again.data())
+
+
 def takes_its_own_files_alone(folder):
     """An index of another form is made anew; what is no index stays as it is, and what is no journal has none."""
     (folder / "journal").write_bytes(example().data())
@@ -343,15 +480,31 @@ def takes_a_millisecond_a_line(folder):
     list(read_on(connection, folder / "journal"))
     again = time.process_time() - begun
     expect(again < 0.1, f"nothing new took {again:.3f} seconds")
-    return f"{took / 20:.3f} ms a line"
+    of_merge = first_merge_takes(folder)
+    expect(of_merge < 10, f"the line of a first merge took {of_merge:.1f} seconds")
+    return f"{took / 20:.3f} ms a line, and a first merge of 16,000 records {of_merge:.1f} s"
+
+
+def first_merge_takes(folder):
+    """How many seconds the line of a merge takes that adds 16,000 records, which has a megabyte."""
+    one = Named()
+    changes = [[f"source-{at:05}", None, "Installed", f"1.{at}-1"] for at in range(16000)]
+    one.merge(on(9, "08:00:00"), ("amd64", changes))
+    (folder / "first").write_bytes(one.data())
+    connection, begun = tables.open_to_write(folder / "first.index"), time.process_time()
+    expect(not list(read_on(connection, folder / "first")), "a line is amiss")
+    took = time.process_time() - begun
+    expect(next(connection.execute("SELECT count(*) FROM package")) == (16000,), "records were lost")
+    return took
 
 
 TESTS = [
-    merges_and_reports_name_what_they_moved, says_since_when, guesses_nothing, takes_odd_changes_for_none,
-    keeps_texts_and_numbers_that_sqlite_lacks, reads_on_line_by_line, passes_over_broken_lines,
-    follows_rotated_journals, says_that_a_part_is_gone, forgets_what_a_copy_lacks, takes_its_own_files_alone,
-    answers_from_an_index_elsewhere,
-    passes_over_other_keys, takes_a_millisecond_a_line,
+    merges_and_reports_name_what_they_moved, keeps_a_build_that_a_merge_leaves, keeps_what_was_said_of_a_state,
+    says_since_when, guesses_nothing, asks_each_architecture_for_itself, doubts_what_is_before_a_gap,
+    takes_odd_changes_for_none, keeps_texts_and_numbers_that_sqlite_lacks, reads_on_line_by_line,
+    passes_over_broken_lines, follows_rotated_journals, says_that_a_part_is_gone, forgets_what_a_copy_lacks,
+    reads_long_lines_in_parts, takes_its_own_files_alone, answers_from_an_index_elsewhere, passes_over_other_keys,
+    takes_a_millisecond_a_line,
 ]
 
 if __name__ == "__main__":

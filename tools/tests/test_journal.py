@@ -72,11 +72,34 @@ LINES = [
     ("built 4", None),
     (
         "merge Sources amd64=Packages armhf=Packages",
-        {"command": "merge", "parts": [{"arch": "amd64"}, {"arch": "armhf"}]},
+        {
+            "command": "merge",
+            "parts": [
+                {
+                    "arch": "amd64",
+                    "changes": [["hello", "Uploaded", "Needs-Build", "2.0"], ["new", None, "Needs-Build", "2"]],
+                },
+                {"arch": "armhf"},
+            ],
+        },
     ),
     ("merge Sources armhf=Packages", None),
-    ("report amd64 report", {"arch": "amd64", "bytes": 33, "command": "report"}),
-    ("merge Sources amd64=Installed", {"command": "merge", "parts": [{"arch": "amd64"}]}),
+    (
+        "report amd64 report",
+        {
+            "arch": "amd64", "bytes": 33, "changes": [["new", "Needs-Build", "BD-Uninstallable", "2"]],
+            "command": "report",
+        },
+    ),
+    (
+        "merge Sources amd64=Installed",
+        {
+            "command": "merge",
+            "parts": [{"arch": "amd64", "changes": [["hello", "Needs-Build", "Installed", "2.0"]]}],
+        },
+    ),
+    ("merge Sources amd64=Installed", {"command": "merge", "parts": [{"arch": "amd64", "changes": []}]}),
+    ("report amd64 empty", {"arch": "amd64", "bytes": 0, "changes": [], "command": "report"}),
     (
         "rebuild amd64 hello 2.0 1 new libc",
         {
@@ -93,6 +116,7 @@ def fill(folder):
     (folder / "Packages").write_text("")
     (folder / "Installed").write_text("Package: hello\nVersion: 2.0\nArchitecture: amd64\n")
     (folder / "report").write_text("new 2 uninstallable libfoo is no\n")
+    (folder / "empty").write_text("")
 
 
 def program(folder, *words, lines=(), prepare=None):
@@ -171,6 +195,31 @@ def answers_are_the_same_with_and_without(folder):
     for table in ("office", "source_record"):
         query = f"SELECT * FROM {table}"
         expect(rows_of(folder / "one", query) == rows_of(folder / "other", query), f"{table} differs")
+
+
+def says_what_a_merge_of_requests_changed(folder):
+    """The line of a merge over HTTP has the architectures with what was changed, and no names of lists; and a removed
+    record has neither a state nor a version."""
+    fill(folder)
+    (folder / "few").mkdir()
+    (folder / "few" / "Sources").write_text(SOURCES)
+    (folder / "few" / "none").write_text("")
+    program(folder, "--store", "store", "run", lines=["add-arch amd64 linux amd64", "add-arch armhf linux arm"])
+    wb, port = serving(folder, "--journal", "log", "--lists", "few")
+    try:
+        for sources in ("Sources", "none"):
+            parts = [{"arch": arch, "packages": "none"} for arch in ("armhf", "amd64")]
+            answer = ask(port, "/v1/merge", {"parts": parts, "sources": sources})
+            expect(answer["ok"] == "merge", f"{answer}")
+    finally:
+        wb.terminate()
+        wb.wait(WAIT)
+    came = [["hello", None, "Needs-Build", "2.0"], ["new", None, "Needs-Build", "2"]]
+    went = [["hello", "Needs-Build", None, None], ["new", "Needs-Build", None, None]]
+    found = [entry["command"] for entry in entries_of(folder / "log")]
+    for command, changes in zip(found, (came, went), strict=True):
+        parts = [{"arch": arch, "changes": changes} for arch in ("armhf", "amd64")]
+        expect(command == {"command": "merge", "parts": parts}, f"{command}")
 
 
 def goes_on_after_an_earlier_run(folder):
@@ -368,6 +417,7 @@ TESTS = [
     has_an_entry_for_each_accepted_command,
     keys_stand_in_order_without_spaces,
     answers_are_the_same_with_and_without,
+    says_what_a_merge_of_requests_changed,
     goes_on_after_an_earlier_run,
     a_line_fault_has_no_entry,
     is_for_its_owner_and_group,

@@ -47,7 +47,7 @@ from harness import WAIT, Failure, expect, trial_program
 from refused_memory_cases import CLOSED, LINE_FAULT, MEMORY, answered
 from refused_memory_judges import AS_AMPLE, LET_GO, NO_ANSWER, NOT_OPENED, OUT_OF_MEMORY, Tally
 from refused_memory_runs import TABLES, TABLES_OF_1, Kept, Run, Tools
-from refused_memory_runs import bytes_in, entries_in, fresh, make_database, rows_in, run_all
+from refused_memory_runs import bytes_in, fresh, lines_in, make_database, rows_in, run_all
 
 # Of the requests of a start so many of the first and of the last are refused, and so many between.
 ENDS, BETWEEN = 20, 40
@@ -155,7 +155,9 @@ class LineTrial:
             end = self.end(run, folder, at_first, answer, is_refused)
             word = judges.line_end(self.case, self.rows, end)
             if self.journal:
-                judges.journal_end(self.case, word, end, entries_in(folder / self.journal))
+                lines = lines_in(folder / self.journal)
+                judges.journal_end(self.case, word, end, [line["answer"] for line in lines])
+                judges.journal_changes(self.case, lines, is_refused)
         except (Failure, sqlite3.Error, subprocess.TimeoutExpired) as why:
             raise Failure(f"with request {number} refused {why}") from None
         if not is_refused:

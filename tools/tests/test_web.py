@@ -98,14 +98,15 @@ def shows_a_package(site):
     expect(page.links["Bugs"] == "https://bugs.example.org/src:hello", f"{page.links}")
     expect("What it needs to be built amd64, arm64 debhelper" in page.text, page.text)
     commands = sorted(row["Command"] for row in page.tables["History"])
-    expect(commands == ["attempted", "built", "give-back", "next", "next", "next", "waits"], f"{commands}")
+    wanted = ["attempted", "built", "give-back", "merge", "merge", "next", "next", "next", "waits"]
+    expect(commands == wanted, f"{commands}")
     row = site.page("/package/zlib").tables["Where it stands"][1]
     expect((row["State"], row["Place"]) == ("Needs-Build", "2 of 2"), f"{row}")
     found = site.json("/package/hello.json")["records"]["rows"]
     met = [(one["arch"], one["state"], one["take"], one["waits"]) for one in found]
     expect(met == [("amd64", "Built", 1, ""), ("arm64", "Dep-Wait", None, WAITS)], f"{met}")
     merged = site.json("/package/zlib.json")["records"]["rows"][1]["since"]
-    expect(found[0]["since"]["is_exact"] and not merged["is_exact"], "what a merge moved without a name is guessed")
+    expect(found[0]["since"]["is_exact"] and merged["is_exact"], f"what a merge moved has no time: {merged}")
 
 
 @of_day
@@ -227,12 +228,14 @@ def proposes_names(site):
 def tells_what_happened(site):
     """The last events first, chosen by package, architecture, builder, command and day; and the feeds."""
     rows = site.page("/history").tables["Events, the last first"]
-    expect([row["Command"] for row in rows[:2]] == ["next", "fail"] and len(rows) == 9, f"{rows[:2]}")
-    for words, count in {"source=hello": 7, "arch=amd64": 4, "builder=a1": 4, "command=built": 1, "day=1999-01-01": 0,
-                         f"day={time.strftime('%Y-%m-%d', time.gmtime())}&source=zlib": 1, "by=nobody": 0}.items():
+    expect([row["Command"] for row in rows[:2]] == ["next", "fail"] and len(rows) == 15, f"{rows[:2]}")
+    for words, count in {"source=hello": 9, "arch=amd64": 7, "builder=a1": 4, "command=built": 1, "day=1999-01-01": 0,
+                         f"day={time.strftime('%Y-%m-%d', time.gmtime())}&source=zlib": 3, "by=nobody": 0,
+                         "command=merge&arch=arm64": 3}.items():
         met = len(site.page(f"/history?{words}").tables.get("Events, the last first", []))
         expect(met == count, f"{words}: {met} events")
-    for path, titles in {"/feed/package/zlib": ["zlib 1:1.3-1 on amd64: Building"],
+    merged = [f"zlib 1:1.3-1 on {arch}: Needs-Build" for arch in ("arm64", "amd64")]
+    for path, titles in {"/feed/package/zlib": ["zlib 1:1.3-1 on amd64: Building", *merged],
                          "/feed/arch/arm64": ["hello 1.0-1 on arm64: Build-Attempted"]}.items():
         fields, text = site.ask(path)
         feed = ElementTree.fromstring(text)
@@ -407,8 +410,8 @@ def says_what_is_missing(folder):
     with day(folder) as served:
         served.process.kill()
         with Site(folder, **settings(folder, served.port)) as site:
-            expect(len(site.page("/package/hello", 503).tables["History"]) == 7, "a history without an office")
-            expect(len(site.page("/history").tables["Events, the last first"]) == 9, "all events without an office")
+            expect(len(site.page("/package/hello", 503).tables["History"]) == 9, "a history without an office")
+            expect(len(site.page("/history").tables["Events, the last first"]) == 15, "all events without an office")
             site.ask("/builder/b1", 503)
     with silent_office() as port, Site(folder, **settings(folder, port, WAIT="1")) as site:
         begun = time.monotonic()
@@ -495,6 +498,26 @@ def says_before_when(folder):
             expect(listed[0]["Since"] == amd64["Since"], f"{listed}")
 
 
+def says_before_a_merge_that_names_nothing(folder):
+    """If the line of a merge does not say what it changed on an architecture, what has waited there since came into its
+    state before a time; what a later line names has its own, and so has all elsewhere."""
+    with day(folder) as served:
+        texts = []
+        for line in (folder / "office.journal").read_text().splitlines():
+            entry = json.loads(line)
+            for part in entry["command"].get("parts", [])[1:]:
+                del part["changes"]
+            texts.append(json.dumps(entry) + "\n")
+        (folder / "other.journal").write_text("".join(texts))
+        update(folder, "other")
+        given = settings(folder, served.port, INDEXES=f"sid={folder}/other.journal.index")
+        with Site(folder, **given) as site:
+            for name, is_exact in {"zlib": False, "hello": True, LONG: False}.items():
+                rows = site.json(f"/package/{name}.json")["records"]["rows"]
+                met = {row["arch"]: row["since"]["is_exact"] for row in rows}
+                expect(met == {"amd64": True, "arm64": is_exact}, f"{name}: {met}")
+
+
 def follows_its_index(folder):
     """What happens while the site serves stands on its pages once the index has it."""
     with day(folder) as served, Site(folder, **settings(folder, served.port)) as site:
@@ -564,8 +587,9 @@ TESTS = [
     counts_what_is_left, leaves_out_what_is_done, proposes_names, tells_what_happened, leads_to_the_logs_of_failures,
     shows_a_porter_what_failed, says_why_there_is_nothing, sorts_and_parts_lists, keeps_texts_texts,
     says_what_its_answers_are, has_links_that_lead_somewhere, says_what_is_missing, shows_what_it_has,
-    shows_an_office_without_architectures, waits_no_longer_than_it_says, says_before_when, follows_its_index,
-    takes_the_settings_that_it_says, lists_its_settings, has_texts_that_are_seen, *form_cases.TESTS,
+    shows_an_office_without_architectures, waits_no_longer_than_it_says, says_before_when,
+    says_before_a_merge_that_names_nothing, follows_its_index, takes_the_settings_that_it_says, lists_its_settings,
+    has_texts_that_are_seen, *form_cases.TESTS,
 ]
 
 if __name__ == "__main__":

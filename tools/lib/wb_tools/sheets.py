@@ -38,8 +38,7 @@ def package_sheet(index: Index, words: argparse.Namespace) -> Iterator[Sheet]:
     unnamed = [one for one in imports if index.is_doubted(one)]
     rows = [move_row(event, event.at - before.at if before else None) for before, event in zip([None, *events], events)]
     if words.merges:
-        rows += [import_row(one) for one in imports]
-        rows.sort(key=lambda row: row["accepted"])
+        rows = with_imports(rows, imports)
     columns = [
         ("TIME", "time", "time"), ("COMMAND", "command", "text"), ("STATE", "state", "text"),
         ("VERSION", "version", "text"), ("BY", "by", "text"), *HOLDER, ("AFTER", "after", "span"),
@@ -51,6 +50,8 @@ def package_sheet(index: Index, words: argparse.Namespace) -> Iterator[Sheet]:
         first, last = day_of(unnamed[0].at), day_of(unnamed[-1].at)
         days = f"from {first} to {last}" if first != last else f"of {first}"
         notes = [f"{which} of {printable(words.arch)} {days} may have moved it too; --merges shows them"]
+    if gaps := index.gaps():
+        notes.append(f"{counted(len(gaps), 'gap')} of the journal may hide more of it; the question gaps shows where")
     title = f"{printable(words.source)} on {printable(words.arch)}: {counted(len(events), 'command')} of the journal"
     yield Sheet(title, columns, rows, notes, ("version", "after"))
 
@@ -58,14 +59,24 @@ def package_sheet(index: Index, words: argparse.Namespace) -> Iterator[Sheet]:
 def move_row(event: Event, after: int | None) -> Row:
     row = {
         "accepted": event.accepted, "after": after, "builder": event.builder, "by": event.by, "command": event.command,
-        "state": "removed" if event.state == "" else event.state or "",
+        "state": "removed" if event.state == "" else event.state or "", "was": event.was,
     }
     return row | {"take": event.take, "text": event.text, "time": time_of(event.at), "version": event.version}
 
 
+def with_imports(rows: list[Row], imports: list[Import]) -> list[Row]:
+    """The rows of a package's history with the merges and reports of its architecture: what the answer counts stands
+    in the row of one that moved it, and the others have rows of their own."""
+    counts = {one.accepted: one.text for one in imports}
+    rows = [row | {"text": counts.get(row["accepted"], row["text"])} for row in rows]
+    there = {row["accepted"] for row in rows}
+    rows += [import_row(one) for one in imports if one.accepted not in there]
+    return sorted(rows, key=lambda row: row["accepted"])
+
+
 def import_row(one: Import) -> Row:
     """A merge or a report as a row of a package's history."""
-    row: Row = dict.fromkeys(("after", "builder", "state", "take", "version"))
+    row: Row = dict.fromkeys(("after", "builder", "state", "take", "version", "was"))
     return row | {
         "accepted": one.accepted, "by": one.by, "command": one.command, "text": one.text, "time": time_of(one.at),
     }
@@ -83,7 +94,7 @@ def building_rows(index: Index, words: argparse.Namespace) -> list[Row]:
         for build in index.builds(result="building", arch=words.arch):
             row = held_row(build.arch, build.source, build.version, build.builder, build.take)
             row |= age_of(Since(build.started, True), words)
-            rows.append(row | {"merged": index.may_have_moved(build.arch, build.accepted, "merge")})
+            rows.append(row | doubts_of(index, build.arch, build.accepted, "merge"))
     return longest_first(rows)
 
 
@@ -108,9 +119,16 @@ def resting_rows(index: Index, words: argparse.Namespace, states: tuple[str, ...
         event = one.event
         row = {"arch": one.key[0], "source": one.key[1], "state": event.state, "version": event.version}
         row |= {"builder": event.builder, "take": event.take} if event.take is not None and states == REPORTED else {}
-        merged = index.may_have_moved(one.key[0], event.accepted, *names)
-        rows.append(row | {"text": event.text} | age_of(one.since, words) | {"merged": merged})
+        rows.append(row | {"text": event.text} | age_of(one.since, words))
+        rows[-1] |= doubts_of(index, one.key[0], event.accepted, *names)
     return longest_first(rows)
+
+
+def doubts_of(index: Index, arch: str, accepted: int, *names: str) -> Row:
+    """Whether what the journal saw at a count may have moved since: by a merge or a report that names nothing, or while
+    lines are missing."""
+    merged = index.may_have_moved(arch, accepted, *names)
+    return {"may_have_moved": merged or index.is_unseen_since(accepted), "merged": merged}
 
 
 def age_of(since: Since | None, words: argparse.Namespace) -> Row:
@@ -138,7 +156,7 @@ def asked(index: Index, words: argparse.Namespace, state: str) -> Iterator[tuple
         yield from ((record, since[record.source]) for record in answer.records)
 
 
-SINCE = [("SINCE", "since", "since"), ("AGE", "age", "span"), ("MERGED SINCE", "merged", "mark")]
+SINCE = [("SINCE", "since", "since"), ("AGE", "age", "span"), ("MAY HAVE MOVED", "may_have_moved", "mark")]
 PACKAGE = [("ARCH", "arch", "text"), ("SOURCE", "source", "text"), ("VERSION", "version", "text")]
 STATE, HOLDER = ("STATE", "state", "text"), [("BUILDER", "builder", "text"), ("TAKE", "take", "number")]
 
@@ -174,7 +192,8 @@ def state_sheet(index: Index, words: argparse.Namespace) -> Sheet:
 def spare_of(rows: list[Row]) -> tuple[str, ...]:
     """What a narrow terminal does without: an architecture that all rows have, the time of which the age says the same,
     take numbers, versions."""
-    return (*(("arch",) if len({row["arch"] for row in rows}) < 2 else ()), "since", "take", "version", "merged")
+    named = () if len({row["arch"] for row in rows}) > 1 else ("arch",)
+    return (*named, "since", "take", "version", "may_have_moved")
 
 
 def unknown_notes(rows: list[Row]) -> list[str]:

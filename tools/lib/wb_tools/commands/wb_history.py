@@ -39,12 +39,13 @@ state.
 on from where the index ends, also after logrotate has moved it away. If there is such a file, all questions read on in
 the same way and then ask it, and do not read the whole journal; who may not write it asks it as it stands.
 
-A build takes from the hand-out to the report of its holder: built, uploaded, waits, attempted or put-back. If the line
-of a merge or a report does not say which packages it moved, the tables say where one came since. With --url `ages` and
-`suspects` ask a serving office on this machine what is there now, and the journal since when: `before` a time, if the
-package may have come into its state by a line that does not name it, or before the journal began. All days and times
-are in UTC. With --json each row is an object of JSON, on a line of its own, and times that something took are in
-seconds. In a terminal a table that is too wide leaves columns out, and says which.
+A build takes from the hand-out to the report of its holder: built, uploaded, waits, attempted or put-back. A merge or a
+report whose line does not say which packages it changed may have moved any, and so may commands whose lines are
+missing: the tables mark what was there before. With --url `ages` and `suspects` ask a serving office on this machine
+what is there now, and the journal since when: `before` a time, if the package may have come into its state by a line
+that does not name it or is missing, or before the journal began. All days and times are in UTC. With --json each row is
+an object of JSON, on a line of its own, and times that something took are in seconds. In a terminal a table that is too
+wide leaves columns out, and says which.
 
 A journal whose last line was cut off, as a kill leaves it, is read up to that line."""
 EXAMPLE = """  tools/bin/wb-history journal package amd64 hello

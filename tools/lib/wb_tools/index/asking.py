@@ -3,7 +3,7 @@ import functools
 import sqlite3
 import statistics
 from collections.abc import Iterable, Iterator, Mapping, Sequence
-from dataclasses import dataclass
+from dataclasses import dataclass, replace
 from typing import Any
 
 from wb_tools.answers import HELD
@@ -205,6 +205,15 @@ class Index:
         last = self.unnamed.get(arch, {})
         return any(last.get(name, 0) > accepted for name in names)
 
+    def is_unseen_since(self, accepted: int) -> bool:
+        """Whether lines are missing after so many accepted commands: they may have moved any package."""
+        return self.last_gap > accepted
+
+    @functools.cached_property
+    def last_gap(self) -> int:
+        """The count at the last line before which lines are missing, or which tells of a hand-out that has none."""
+        return int(next(self.rows("SELECT coalesce(max(accepted), 0) FROM doubt WHERE arch IS NULL"))[0])
+
     @functools.cached_property
     def unnamed(self) -> dict[str, dict[str, int]]:
         """The count at the last merge and the last report of each architecture that does not say what it moved."""
@@ -259,8 +268,18 @@ class Index:
         statement = f"SELECT package.accepted, package.at, is_exact, {columns} FROM package JOIN event ON id = event"
         condition = f"package.state IN ({marks(states)}) AND (? IS NULL OR package.arch = ?)"
         for row in self.rows(f"{statement} WHERE {condition} ORDER BY id", (*states, arch, arch)):
-            event = Event(*row[3:])
+            event = self.as_led(Event(*row[3:]), row[0])
             yield Resting((event.arch or "", event.source or ""), event, Since(row[1], bool(row[2])))
+
+    def as_led(self, event: Event, accepted: int) -> Event:
+        """An event with what was said of its state by the line of this count, which led there: a merge that changes
+        another field leaves the holder and the note as they are."""
+        if event.accepted == accepted:
+            return event
+        values = (event.source, event.arch, accepted)
+        led = self.events("source = ? AND arch = ? AND accepted = ?", values, "ORDER BY id DESC LIMIT 1")
+        kept = {name: getattr(led[0], name) for name in ("builder", "take", "text")} if led else {}
+        return replace(event, **kept)
 
     def oldest(self, arch: str, state: str) -> list[str]:
         """What the journal last saw in a state, the longest first."""

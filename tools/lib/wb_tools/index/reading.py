@@ -15,7 +15,7 @@ from wb_tools.journal import Cut, Entry, compressed, read_line
 from wb_tools.lists import Refused
 
 MARK = 256  # bytes at the begin of a part and before the place to which it was read, by which it is known again
-BATCH = 20000  # lines that are committed together
+LINES, SIZE = 20000, 1 << 22  # lines and bytes that are committed together; a longer line is committed whole
 
 
 @dataclass(slots=True)
@@ -36,6 +36,23 @@ class Place:
             file.seek(self.offset - len(self.tail))
             return file.read(len(self.tail)) == self.tail
         return False
+
+
+@dataclass(slots=True)
+class Room:
+    """How many lines and bytes of a journal are read before what was read is committed. Until then all that it changes
+    of the index is in memory, and the line of a merge has a megabyte for each 16,000 records that it changes."""
+
+    lines: int
+    size: int
+
+    @property
+    def is_full(self) -> bool:
+        return self.lines <= 0 or self.size <= 0
+
+    def take(self, line: bytes) -> None:
+        self.lines -= 1
+        self.size -= len(line)
 
 
 def opened(part: Path) -> IO[bytes]:
@@ -100,8 +117,8 @@ def is_behind(connection: sqlite3.Connection, journal: Path) -> bool:
 
 
 def read_batch(connection: sqlite3.Connection, journal: Path) -> tuple[list[Refused], bool]:
-    """Reads so many lines, and gives those that could not be read, and whether more may come."""
-    writer, place, faults, left = Writer(connection), place_in(connection), [], BATCH
+    """Reads as many lines as there is room for, and gives those that could not be read, and whether more may come."""
+    writer, place, faults, room = Writer(connection), place_in(connection), [], Room(LINES, SIZE)
     parts, is_found = parts_left(journal, place, writer.last is not None)
     if not is_found:
         place = Place()
@@ -109,39 +126,36 @@ def read_batch(connection: sqlite3.Connection, journal: Path) -> tuple[list[Refu
         faults.append(Refused(f"{journal} {why}"))
     for part in parts:
         with opened(part) as file:
-            for found in read_part(part, file, place, part is not parts[-1], left):
+            for found in read_part(part, file, place, part is not parts[-1], room):
                 if isinstance(found, Entry):
                     writer.take_in(found)
-                elif isinstance(found, Refused):
-                    faults.append(found)
                 else:
-                    left -= 1
-        if left <= 0:
+                    faults.append(found)
+        if room.is_full:
             break
         if part is not parts[-1]:
             place = Place()
     writer.save()
     values = (place.head, place.tail, place.offset, place.line)
     connection.execute("UPDATE reading SET head = ?, tail = ?, offset = ?, line = ?", values)
-    return faults, left <= 0
+    return faults, room.is_full
 
 
-def read_part(part: Path, file: IO[bytes], place: Place, is_whole: bool, most: int) -> Iterator[Entry | Refused | None]:
-    """What stands in a part from a place on, which moves along; none after each line. A last line without its end is
-    read only of a whole part, to which nothing is written any more."""
+def read_part(part: Path, file: IO[bytes], place: Place, is_whole: bool, room: Room) -> Iterator[Entry | Refused]:
+    """What stands in a part from a place on, which moves along. A last line without its end is read only of a whole
+    part, to which nothing is written any more."""
     file.seek(place.offset)
     for line in file:
         if not place.line and (why := compressed(str(part), line)):
             raise why
-        if most <= 0 or not (is_whole or line.endswith(b"\n")):
+        if room.is_full or not (is_whole or line.endswith(b"\n")):
             break
-        most -= 1
+        room.take(line)
         place.line += 1
         place.offset += len(line)
         place.head = place.head if len(place.head) == MARK else (place.head + line)[:MARK]
         place.tail = (place.tail + line)[-MARK:]
         yield from read_line(f"{part}, line {place.line}", line)
-        yield None
 
 
 def check_journal(connection: sqlite3.Connection, faults: list[Refused]) -> None:

@@ -6,7 +6,7 @@ from pathlib import Path
 
 from wb_tools.lists import Refused
 
-FORM = 2  # of the tables; an index of another form is made anew
+FORM = 3  # of the tables; an index of another form is made anew
 BUSY = 30  # seconds for a program that writes the index at this moment
 
 # Times are seconds since 1970 in UTC. `accepted` is the count of accepted commands with that of the row.
@@ -41,7 +41,7 @@ CREATE TABLE package(            -- where the journal last saw each package
   event INTEGER NOT NULL,        -- the last move
   accepted INTEGER NOT NULL,     -- the command that led into the state
   at INTEGER NOT NULL,
-  is_exact INTEGER NOT NULL,     -- 0 if the package was in the state before that command already
+  is_exact INTEGER NOT NULL,     -- 0 if the package was in the state before that time already
   state TEXT NOT NULL,
   PRIMARY KEY(arch, source)
 ) STRICT, WITHOUT ROWID;
@@ -54,7 +54,7 @@ CREATE TABLE build(              -- a hand-out, and the move that ended it
   ended INTEGER,                 -- null while it builds
   command TEXT,                  -- what ended it
   result TEXT NOT NULL,          -- building, built, failed, waited, put_back; other if its holder did not end it
-  took INTEGER,                  -- seconds until the report of its holder
+  took INTEGER,                  -- seconds until the report of its holder, null if an earlier one may be missing
   text TEXT NOT NULL             -- that of the command that ended it
 ) STRICT;
 CREATE TABLE import(             -- a merge or a report, for each architecture that it was carried out for

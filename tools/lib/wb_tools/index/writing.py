@@ -117,8 +117,10 @@ class Writer:
         for table in ("package", "build"):
             self.connection.execute(f"DELETE FROM {table}")
         self.begin()
-        for values in self.connection.execute("SELECT * FROM event ORDER BY id").fetchall():
+        for at, values in enumerate(self.connection.execute("SELECT * FROM event ORDER BY id"), 1):
             self.derive(dict(zip(COLUMNS, values)))
+            if at % FLUSH == 0:
+                self.flush()
 
     # ---- events
 
@@ -204,16 +206,35 @@ class Writer:
     def end_build(self, build: Row, row: Row) -> None:
         build |= {"ended": row["at"], "command": row["command"], "result": "other", "text": row["text"]}
         if build["take"] is not None and build["take"] == row["take"]:
-            build |= {"result": ENDS.get(row["command"], "other"), "took": row["at"] - build["started"]}
+            may_be_built = row["command"] == "uploaded" and self.has_gap(build["accepted"], row["accepted"])
+            took = None if may_be_built else row["at"] - build["started"]
+            build |= {"result": ENDS.get(row["command"], "other"), "took": took}
         self.builds[build["id"]] = build
 
+    def has_gap(self, before: int, accepted: int) -> bool:
+        """Whether lines are missing after one of these counts and up to the other."""
+        statement = "SELECT 1 FROM gap WHERE accepted > ? AND accepted <= ? LIMIT 1"
+        return self.connection.execute(statement, (before, accepted)).fetchone() is not None
+
     def place(self, key: Key, row: Row, stays: bool) -> None:
-        """Sees where a package is now, and since when if it was elsewhere before."""
-        known = (self.packages.get(key) or self.placed(key)) if stays else None
-        if known and known[-1] == row["state"]:
+        """Sees where a package is now, and since when if it was elsewhere before. If it was there already, that is the
+        time before, unless it may have been away since then: then it is there since a time before."""
+        known = self.packages.get(key) or self.placed(key) if stays else None
+        doubt = self.last_doubt(key[0], row, known[3] if known else -1) if stays else None
+        if known and known[-1] == row["state"] and doubt is None:
             self.packages[key] = (*key, row["id"], *known[3:])
         else:
-            self.packages[key] = (*key, row["id"], row["accepted"], row["at"], not stays, row["state"])
+            at = row["at"] if doubt is None else min(row["at"], doubt + 1)
+            self.packages[key] = (*key, row["id"], row["accepted"], at, not stays, row["state"])
+
+    def last_doubt(self, arch: str, row: Row, after: int) -> int | None:
+        """When the last line was, after a count and up to that of an event, by which a package may have come into the
+        state of the event without being named."""
+        statement = """SELECT at FROM doubt WHERE accepted > ? AND accepted <= ? AND (arch IS NULL OR arch = ?)
+          AND (state IS NULL OR state = ?) ORDER BY accepted DESC LIMIT 1"""
+        values = (after, row["accepted"], arch, row["state"])
+        found = self.connection.execute(statement, values).fetchone()
+        return found and int(found[0])
 
     def placed(self, key: Key) -> Placed | None:
         found: Placed | None = self.connection.execute(
