@@ -75,8 +75,11 @@ def expect_since(index, wanted):
     for (source, state, *take), answer in wanted.items():
         met = index.since(("amd64", source), state, *take)
         expect(met == answer, f"{source} is {state} since {met}, and not {answer}")
-        [each] = index.since_each("amd64", state, {source: take[0] if take else None}).values()
+        takes = {source: take[0] if take else None}
+        [each] = index.since_each("amd64", state, takes).values()
         expect(each == met, f"{source} among others: {each}")
+        time = index.times_each("amd64", state, takes).get(source)
+        expect(time == (met.at if met else None), f"{source} among others has the time {time}")
 
 
 # ---- what the lines say

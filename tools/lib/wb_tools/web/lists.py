@@ -186,10 +186,12 @@ def places_of(visit: Visit, suite: Suite, arch_name: str) -> dict[str, int]:
 def times_of(visit: Visit, suite: Suite, arch_name: str, name: str, found: list[dict[str, Any]]) -> list[object]:
     """Since when each of these records is in its state, in seconds."""
     index = visit.index(suite)
-    takes = {str(one.get("source")): one.get("take") for one in found}
-    numbers = {source: take if type(take) is int else None for source, take in takes.items()}
-    times = index.since_each(arch_name, name, numbers) if index else {}
-    return [since.at if since else None for since in (times.get(str(one.get("source"))) for one in found)]
+    if not index:
+        return [None] * len(found)
+    sources = [str(one.get("source")) for one in found]
+    takes = (take if type(take) is int else None for take in (one.get("take") for one in found))
+    times = index.times_each(arch_name, name, dict(zip(sources, takes)) if name in HELD else dict.fromkeys(sources))
+    return [times.get(source) for source in sources]
 
 
 # ---- a builder

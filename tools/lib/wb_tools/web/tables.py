@@ -62,6 +62,9 @@ def rank(value: object) -> tuple[int, Any]:
 
 def places_in(values: Sequence[object], is_down: bool) -> list[int]:
     """Where each of these values stands, in their order; nothing comes last in either."""
+    kinds = set(map(type, values))
+    if kinds == {int} or kinds == {str} and all(values):  # as in most columns of a long list
+        return sorted(range(len(values)), key=values.__getitem__, reverse=is_down)
     ranks = list(map(rank, values))
     there = sorted((at for at, one in enumerate(ranks) if one[0] < 2), key=ranks.__getitem__, reverse=is_down)
     return there + [at for at, one in enumerate(ranks) if one[0] == 2]
