@@ -222,6 +222,23 @@ def says_what_a_merge_of_requests_changed(folder):
         expect(command == {"command": "merge", "parts": parts}, f"{command}")
 
 
+def says_nothing_of_a_part_that_is_refused(folder):
+    """Each part that is merged has its changes once, wherever it stands among others that are refused."""
+    fill(folder)
+    (folder / "Malformed").write_text("no field\n")
+    words = ("amd64=none armhf=Malformed", "armhf=Malformed sparc=none amd64=none")
+    lines = ["add-arch amd64 linux amd64", "add-arch armhf linux arm", *(f"merge Sources {one}" for one in words)]
+    (folder / "none").write_text("")
+    program(folder, "run", "--journal", "log", lines=lines)
+    found = [entry["command"]["parts"] for entry in entries_of(folder / "log") if "parts" in entry["command"]]
+    came = [["hello", None, "Needs-Build", "2.0"], ["new", None, "Needs-Build", "2"]]
+    wanted = [
+        [{"arch": "amd64", "changes": came}, {"arch": "armhf"}],
+        [{"arch": "armhf"}, {"arch": "sparc"}, {"arch": "amd64", "changes": []}],
+    ]
+    expect(found == wanted, f"{found}")
+
+
 def goes_on_after_an_earlier_run(folder):
     program(folder, "--store", "store", "run", "--journal", "log", lines=["add-arch amd64 linux amd64"])
     program(folder, "--store", "store", "run", lines=["add-arch armhf linux arm"])
@@ -418,6 +435,7 @@ TESTS = [
     keys_stand_in_order_without_spaces,
     answers_are_the_same_with_and_without,
     says_what_a_merge_of_requests_changed,
+    says_nothing_of_a_part_that_is_refused,
     goes_on_after_an_earlier_run,
     a_line_fault_has_no_entry,
     is_for_its_owner_and_group,
