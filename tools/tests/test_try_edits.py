@@ -144,6 +144,13 @@ CHANGED = {
     "total": ["office::total"], "words_total": ["office::line::words::total"], "words_longest": NAMES[3:6],
     "text_longest": ["office::text::Text::longest"],
 }
+# Heads of what has a method, and what the prover writes before its name.
+ELSEWHERE = [
+    ("impl Text", "Text"), ("impl<S: Of<u8> + Drop> Text<'_, S>", "Text"),
+    ("impl<D: Drop> Text<Kept<D>>", "Text+Kept+D"),
+    ("impl fmt::Display for Text", "TextDisplay"), ("impl<S: Drop> Text for Kept<S>", "KeptText"),
+    ("impl From<AllocFailed<Text>> for Kept", "KeptFromAllocFailed"),
+]
 
 
 def names_what_is_changed(folder):
@@ -153,10 +160,14 @@ def names_what_is_changed(folder):
         found = edit.places[0].names_among(NAMES)
         expect(found == CHANGED[name], f"{name} changes {found}")
     shortest = "    pub(super) fn shortest(n: u8) -> u8 {\n        n + 6\n    }\n"
-    (folder / "src/other.rt").write_text(f"impl Text {{\n{shortest}}}\n")
-    edit = read(folder, "file: src/other.rt\nold: n + 6\nnew: n + 9\n")
-    found = edit.places[0].names_among([*NAMES, "office::text::Text::shortest"])
-    expect(found == ["office::text::Text::shortest"], f"an edit of a type's function elsewhere changes {found}")
+    for head, owner in ELSEWHERE:
+        (folder / "src/other.rt").write_text(f"{head} {{\n{shortest}}}\n")
+        edit = read(folder, "file: src/other.rt\nold: n + 6\nnew: n + 9\n")
+        name = f"office::text::{owner}::shortest"
+        found = edit.places[0].names_among([*NAMES, "office::shortest", "office::text::Other::shortest", name])
+        expect(found == [name], f"an edit of a function of `{head}` elsewhere changes {found}")
+        line = f"fn office::text::Other::shortest: {SEARCH}"
+        expect(not edit.places[0].is_named_in(line), f"`{head}` is named by a function of another type")
 
 
 def judges_what_is_changed(folder):
