@@ -168,6 +168,9 @@ def names_what_is_changed(folder):
         expect(found == [name], f"an edit of a function of `{head}` elsewhere changes {found}")
         line = f"fn office::text::Other::shortest: {SEARCH}"
         expect(not edit.places[0].is_named_in(line), f"`{head}` is named by a function of another type")
+        proof = f"./proofs/text/{owner}/shortest/Answers.antt:4:9: error: `value`: not admitted"
+        expect(edit.places[0].is_named_in(proof), f"`{head}` is not named by its proof")
+        expect(not edit.places[0].is_named_in(proof.replace(owner, "Other")), f"`{head}` is named by another's proof")
 
 
 def judges_what_is_changed(folder):
