@@ -1,6 +1,6 @@
 //! The office over tables: each command is one transaction.
 ghost use Rattle.std.specs.Prelude.{◌≡◌, ◌⊎◌, [], false, true, None, Err, Ok, map, IfOk, IfErr};
-ghost use Rattle.std.specs.Prelude.{IfSome, IsErrAnd, IsTrue, OnOk};
+ghost use Rattle.std.specs.Prelude.{IfSome, IsErrAnd, IsTrue, OnOk, is_some};
 ghost use Rattle.sqlite.specs.Change.{KeepsRows};
 ghost use Rattle.sqlite.specs.Files.{file_state};
 ghost use Rattle.sqlite.specs.Held.{state};
@@ -89,6 +89,7 @@ impl<S: Alter + Drop> Office<S> {
     pub fn try_adopt(alloc: Global, conn: Connection<S>) -> Result<Office<S>, RefusedConnection<S>>
         requires idle { conn.in_transaction ≡ false }
         ensures opened { IfOk result (λ office. office.is_closed ≡ false) }
+        ensures silent { IfOk result (λ office. office.is_noting ≡ false) }
         ensures found { IfOk result (λ office. HasCleanDisk (state S.Store office.store)
             → (machine : Machine) → IsFoundAt machine (state S.Store conn)
             → StandsAt machine office.is_closed office.known (state S.Store office.store)) }
@@ -131,6 +132,7 @@ impl<S: Alter + Drop> Office<S> {
     pub fn adopt(alloc: Global, conn: Connection<S>) -> Result<Office<S>, StoreFault>
         requires idle { conn.in_transaction ≡ false }
         ensures opened { IfOk result (λ office. office.is_closed ≡ false) }
+        ensures silent { IfOk result (λ office. office.is_noting ≡ false) }
         ensures found { IfOk result (λ office. HasCleanDisk (state S.Store office.store)
             → (machine : Machine) → IsFoundAt machine (state S.Store conn)
             → StandsAt machine office.is_closed office.known (state S.Store office.store)) }
@@ -181,6 +183,8 @@ impl<S: Alter + Drop> Office<S> {
     pub fn apply(&mut self, command: &Command) -> Result<Reply, Refusal>
         ensures applies { Applies S.Store command.now self.old.is_closed self.old.known self.old.store
             self.new.is_closed self.new.known self.new.store result }
+        ensures notes { self.new.is_noting ≡ self.old.is_noting }
+        ensures untold { IfErr result (λ _. self.new.changes ≡ None) }
         ensures noted { HasCleanDisk (state S.Store self.new.store) → (machine : Machine)
             → StandsAt machine self.old.is_closed self.old.known (state S.Store self.old.store)
             → OnOk result (IfSome self.new.changes (λ changes.
@@ -232,6 +236,8 @@ impl<S: Alter + Drop> Office<S> {
     ) -> Result<Reply, Refusal>
         ensures applies { AppliesLists S.Store R.remaining sources parts.items self.old.is_closed self.old.known self.old.store
             self.new.is_closed self.new.known self.new.store result }
+        ensures notes { self.new.is_noting ≡ self.old.is_noting }
+        ensures untold { IfErr result (λ _. self.new.changes ≡ None) }
         ensures noted { HasCleanDisk (state S.Store self.new.store) → (machine : Machine)
             → StandsAt machine self.old.is_closed self.old.known (state S.Store self.old.store)
             → IfOk result (HasListsNoted S.Store R.remaining sources parts.items machine
@@ -277,6 +283,8 @@ impl<S: Alter + Drop> Office<S> {
         ensures asks { Asks S.Store (λ machine. answer_of machine query.now)
             (has_malformed_name query.now) self.old.is_closed self.old.known self.old.store
             self.new.is_closed self.new.known self.new.store result }
+        ensures notes { (self.new.is_noting ≡ self.old.is_noting)
+            × (self.new.changes ≡ self.old.changes) }
     {
         if self.is_closed {
             return Err(Refusal::Closed);
@@ -306,6 +314,8 @@ impl<S: Alter + Drop> Office<S> {
             false self.old.is_closed self.old.known self.old.store
             self.new.is_closed self.new.known self.new.store result }
         ensures refused { IfErr result (λ refusal. IsOfMachine refusal → is_of_store refusal ≡ true) }
+        ensures notes { (self.new.is_noting ≡ self.old.is_noting)
+            × (self.new.changes ≡ self.old.changes) }
     {
         if self.is_closed {
             return Err(Refusal::Closed);
@@ -323,8 +333,9 @@ impl<S: Alter + Drop> Office<S> {
     /// Has what merges and reports change noted from now on, for [`changes`](Office::changes).
     /// Nothing else of the office changes. Takes no memory (this project's own).
     pub fn note_changes(&mut self)
+        ensures notes { self.new.is_noting ≡ true }
         ensures stays { (self.new.is_closed ≡ self.old.is_closed) × (self.new.known ≡ self.old.known)
-            × (self.new.store ≡ self.old.store) }
+            × (self.new.store ≡ self.old.store) × (self.new.changes ≡ self.old.changes) }
     {
         self.is_noting = true;
     }
@@ -346,6 +357,8 @@ impl<S: Alter + Drop> Office<S> {
     /// open. The office is as it was; after a fault it is given up.
     pub(crate) fn rows(&mut self) -> Result<Items<TableRow>, StoreFault>
         ensures kept { (self.new.is_closed ≡ self.old.is_closed) × (self.new.known ≡ self.old.known) }
+        ensures notes { (self.new.is_noting ≡ self.old.is_noting)
+            × (self.new.changes ≡ self.old.changes) }
         ensures clean { HasCleanDisk (state S.Store self.new.store) → HasCleanDisk (state S.Store self.old.store) }
         ensures shows { IfOk result (λ rows. HasCleanDisk (state S.Store self.new.store) → self.old.is_closed ≡ false
             → (machine : Machine) → StandsAt machine self.old.is_closed self.old.known (state S.Store self.old.store)
@@ -374,6 +387,7 @@ impl<D: Disk + Drop> Office<FileStore<D>> {
         requires log { IsTrue (D.Disk.is_usable files.log) }
         requires db { IsTrue (D.Disk.is_usable files.db) }
         ensures opened { IfOk result (λ office. office.is_closed ≡ false) }
+        ensures silent { IfOk result (λ office. office.is_noting ≡ false) }
         ensures found { IfOk result (λ office. HasCleanDisk (file_state office.store)
             → (machine : Machine) → AreFoundAt D.Disk files machine
             → StandsAt machine office.is_closed office.known (file_state office.store)) }
@@ -408,6 +422,7 @@ impl<D: Disk + Drop> Office<FileStore<D>> {
         requires log { IsTrue (D.Disk.is_usable files.log) }
         requires db { IsTrue (D.Disk.is_usable files.db) }
         ensures opened { IfOk result (λ office. office.is_closed ≡ false) }
+        ensures silent { IfOk result (λ office. office.is_noting ≡ false) }
         ensures found { IfOk result (λ office. HasCleanDisk (file_state office.store)
             → (machine : Machine) → AreFoundAt D.Disk files machine
             → StandsAt machine office.is_closed office.known (file_state office.store)) }
@@ -540,6 +555,7 @@ impl<S: Alter + Drop> MergeFrom for Office<S> {
 /// Nothing that is noted yet, if something is to be noted. Takes no memory.
 fn no_notes(alloc: Global, is_noting: bool) -> Option<Vec<ArchChanges>>
     ensures value { IfSome result (λ begun. begun.items ≡ []) }
+    ensures noting { is_some result ≡ is_noting }
 {
     if is_noting {
         return Some(Vec::new(alloc));

@@ -15,6 +15,7 @@ returns-in-Ok g c =
       asks = asked_found {answer_in = λ machine. Ok (holder_of machine c.args.take_number)} (Ok c.in-Ok.holder)
           c.if-self.false refl (λ machine. refl) tt (finds_from finds (λ machine sound is knows. (ap Ok is, knows)));
       refused = tt;
+      notes = (refl, refl);
     }
 
 pub returns-in-Err : goal.returns-in-Err
@@ -25,4 +26,5 @@ returns-in-Err g c =
     record {
       asks = asked_unread c.if-self.false refl (λ machine knows. knows) finds ends;
       refused = λ other. ap is_of_store ends.told ∙ of_fault c.in-Err.fault (λ is. other (ends.told ∙ is));
+      notes = (refl, refl);
     }
