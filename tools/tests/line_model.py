@@ -25,6 +25,8 @@ FORMAT = 2  # of the tables
 ARGUMENTS = {
     "add-arch": "name os cpu",
     "add-builder": "name arch",
+    "remove-arch": "name",
+    "remove-builder": "name arch",
     "enter": "arch source version priority section",
     "next": "arch builder",
     "take": "arch builder source version",
@@ -39,6 +41,7 @@ ARGUMENTS = {
     "not-for-us": "arch source version note..",
     "rebuild": "arch source version number message..",
     "build-priority": "arch source version value",
+    "forget": "arch source version",
 }
 NUMBERS = {"take", "number", "value", "after"}
 QUERIES = {
@@ -111,12 +114,27 @@ def printed(groups):
     return ", ".join(" | ".join(of(*alternative) for alternative in group) for group in groups)
 
 
+def provided(text):
+    """What a field Provides gives: names, each with its version or with None; nothing if it has no reading."""
+    given = []
+    for group in text.split(","):
+        alternatives = [ALTERNATIVE.match(one.strip()) for one in group.split("|")] if group.strip() else []
+        if not all(alternatives):
+            return []
+        if len(alternatives) == 1:
+            name, _, operator, version, words, profiles = alternatives[0].groups()
+            if operator in (None, "=") and not words and not profiles:
+                given.append((name, version))
+    return given
+
+
 def are_met(groups, available):
-    """Whether what is available, pairs of a name and a version, meets relations."""
+    """Whether what is available, pairs of a name and a version or None, meets relations."""
 
     def is_met(name, _, operator, version):
         return any(
-            name == has and (not operator or COMPARED[operator](order(of), order(version))) for has, of in available
+            name == has and (not operator or of is not None and COMPARED[operator](order(of), order(version)))
+            for has, of in available
         )
 
     return all(any(is_met(*alternative) for alternative in group) for group in groups)
@@ -200,7 +218,10 @@ class ArchLists:
                     fields["version"], fields.get("priority", ""), fields.get("section", ""), self.depends_of(fields)
                 )
         self.available = [
-            (fields["package"], fields["version"]) for fields in packages if fields["architecture"] in (arch[0], "all")
+            offer
+            for fields in packages
+            if fields["architecture"] in (arch[0], "all")
+            for offer in [(fields["package"], fields["version"]), *provided(fields.get("provides", ""))]
         ]
         for fields in packages:
             name, version, number = source_of(fields)

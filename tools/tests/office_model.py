@@ -38,11 +38,11 @@ CODES = {
 }
 CODES |= {
     "NotHeld": 8, "AfterAhead": 9, "AlreadyThere": 10, "BadName": 11, "BadVersion": 12, "BadRelations": 13,
-    "BadNumber": 14, "BadReport": 16, "TextTooLong": 17,
+    "BadNumber": 14, "BadReport": 16, "TextTooLong": 17, "StillHeld": 23,
 }
 STATUSES = dict.fromkeys(("UnknownArch", "UnknownBuilder", "UnknownSource"), 404)
 STATUSES |= dict.fromkeys(
-    ("WrongArch", "OtherVersion", "WrongState", "QueueEmpty", "NotHeld", "AfterAhead", "AlreadyThere"), 409
+    ("WrongArch", "OtherVersion", "WrongState", "QueueEmpty", "NotHeld", "AfterAhead", "AlreadyThere", "StillHeld"), 409
 )
 STATUSES |= dict.fromkeys(("BadName", "BadVersion", "BadRelations", "BadNumber", "BadReport", "TextTooLong"), 422)
 
@@ -86,6 +86,7 @@ FORMS = {
     "source": re.compile(r"[a-z0-9][a-z0-9+.-]{1,199}\Z"), "os": WORD, "cpu": WORD, "priority": LABEL, "section": LABEL,
 }
 ADDED = {"add-arch": "arch", "add-builder": "builder", "enter": "source"}  # what each of these commands adds
+REMOVED = {"remove-arch": "arch", "remove-builder": "builder", "forget": "source"}  # what each of these removes
 
 
 def parts_of(version):
@@ -334,7 +335,7 @@ class Office:
             return STATUSES[why.name], {"code": CODES[why.name], "refused": why.name, **why.more}
 
     def carry_out(self, name, body):
-        forms = {**FORMS, "name": FORMS[ADDED.get(name, "arch")]}
+        forms = {**FORMS, "name": FORMS[(ADDED | REMOVED).get(name, "arch")]}
         check(all(forms[key].match(text) for key, text in body.items() if key in forms), "BadName")
         version = parts_of(body["version"]) if "version" in body else None
         relations = self.relations_of(body["relations"], self.arch_of(body)) if "relations" in body else None
@@ -346,6 +347,8 @@ class Office:
         check("arch" not in body or body["arch"] in self.archs, "UnknownArch")
         if name in ADDED:
             return self.add(name, body)
+        if name in REMOVED:
+            return self.remove(name, body, version)
         if name == "report":
             return self.take_report(body["arch"], report)
         if "builder" in body:
@@ -385,6 +388,36 @@ class Office:
             check((body["arch"], body["source"]) not in self.records, "AlreadyThere")
             self.records[body["arch"], body["source"]] = Kept(**body, state="Needs-Build")
         return self.accept(name)
+
+    def remove(self, name, body, version):
+        """Removes an architecture, a builder from an architecture, or the record of a source package, unless it is
+        held."""
+        if name == "remove-arch":
+            check(body["name"] in self.archs, "UnknownArch")
+            self.check_held(record for record in self.records.values() if record.arch == body["name"])
+            del self.archs[body["name"]]
+            self.records = {key: record for key, record in self.records.items() if record.arch != body["name"]}
+            for builder in [*self.builders]:
+                self.drop_pair(builder, body["name"])
+        elif name == "remove-builder":
+            self.check_builder({"builder": body["name"], "arch": body["arch"]})
+            mine = [record for record in self.records.values() if record.holder == body["name"]]
+            self.check_held(record for record in mine if record.arch == body["arch"])
+            self.drop_pair(body["name"], body["arch"])
+        else:
+            record = self.record_of(body, version)
+            self.check_held([record])
+            del self.records[record.arch, record.source]
+        return self.accept(name)
+
+    def check_held(self, records):
+        check(all(record.holder is None for record in records), "StillHeld")
+
+    def drop_pair(self, builder, arch):
+        """Takes an architecture from a builder; one that has none any more is as one that was never added."""
+        self.builders[builder].discard(arch)
+        if not self.builders[builder]:
+            del self.builders[builder]
 
     def check_waits(self, text, printed):
         met = self.said if isinstance(self.said, dict) else {}

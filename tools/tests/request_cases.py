@@ -62,10 +62,10 @@ def ok(**found):
     return "200 " + json.dumps(found, ensure_ascii=False, separators=(",", ":"), sort_keys=True)
 
 
-def assigned(accepted, take, name, source, version):
-    """The answer to `next` or `take` for arm64, the `accepted`th command."""
+def assigned(accepted, take, name, source, version, arch="arm64"):
+    """The answer to `next` or `take`, the `accepted`th command."""
     return ok(
-        accepted=accepted, arch="arm64", build=version, message="", number=0, ok=name, source=source, take=take,
+        accepted=accepted, arch=arch, build=version, message="", number=0, ok=name, source=source, take=take,
         version=version,
     )
 
@@ -116,8 +116,12 @@ BAD_NAME = '422 {"code":11,"refused":"BadName"}'
 BAD_NUMBER = '422 {"code":14,"refused":"BadNumber"}'
 UNKNOWN_SOURCE = '404 {"code":4,"refused":"UnknownSource"}'
 UNKNOWN_ARCH = '404 {"code":1,"refused":"UnknownArch"}'
+UNKNOWN_BUILDER = '404 {"code":2,"refused":"UnknownBuilder"}'
+WRONG_ARCH = '409 {"code":3,"refused":"WrongArch"}'
+OTHER_VERSION = '409 {"code":5,"have":"1.0-1","refused":"OtherVersion"}'
 ALREADY_THERE = '409 {"code":10,"refused":"AlreadyThere"}'
 NOT_HELD = '409 {"code":8,"refused":"NotHeld"}'
+STILL_HELD = '409 {"code":23,"refused":"StillHeld"}'
 QUEUE_EMPTY = '409 {"code":7,"refused":"QueueEmpty"}'
 MINE = '200 {"builder":"b1","records":[]}'
 
@@ -170,6 +174,9 @@ HEADS = [
     (b"GET /v1/attempted HTTP/1.1\r\n\r\n", "405 WrongMethod"),
     (b"GET /v1/add-arch HTTP/1.1\r\n\r\n", "405 WrongMethod"),
     (b"PUT /v1/add-builder HTTP/1.1\r\n\r\n", "405 WrongMethod"),
+    (b"DELETE /v1/remove-builder HTTP/1.1\r\n\r\n", "405 WrongMethod"),
+    (b"GET /v1/remove-arch HTTP/1.1\r\n\r\n", "405 WrongMethod"),
+    (b"DELETE /v1/forget HTTP/1.1\r\n\r\n", "405 WrongMethod"),
     (b"GET /v1/enter HTTP/1.1\r\n\r\n", "405 WrongMethod"),
     (b"PUT /v1/build-priority HTTP/1.1\r\n\r\n", "405 WrongMethod"),
     (b"HEAD /v1/mine/b1 HTTP/1.1\r\n\r\n", "405 WrongMethod"),
@@ -363,6 +370,25 @@ BODIES = [
         ("add-builder", '{"name":"b4","arch":"any"}', BAD_NAME),
         ("add-builder", '{"name":"b4","arch":"armhf"}', UNKNOWN_ARCH),
         ("add-builder", '{"name":"b1","arch":"amd64"}', ALREADY_THERE),
+        ("remove-arch", '{"arch":"armhf"}', "400 BadBody"),
+        ("remove-arch", '{"name":["armhf"]}', "400 BadBody"),
+        ("remove-arch", '{"name":"all"}', BAD_NAME),
+        ("remove-arch", '{"name":"armhf"}', UNKNOWN_ARCH),
+        ("remove-builder", '{"arch":"amd64"}', "400 BadBody"),
+        ("remove-builder", '{"name":"b4"}', "400 BadBody"),
+        ("remove-builder", '{"builder":"b4","arch":"amd64"}', "400 BadBody"),
+        ("remove-builder", '{"name":"-","arch":"armhf"}', BAD_NAME),
+        ("remove-builder", '{"name":"b4","arch":"any"}', BAD_NAME),
+        ("remove-builder", '{"name":"b4","arch":"armhf"}', UNKNOWN_ARCH),
+        ("remove-builder", '{"name":"b4","arch":"amd64"}', UNKNOWN_BUILDER),
+        ("remove-builder", '{"name":"b2","arch":"amd64"}', WRONG_ARCH),
+        ("forget", '{"arch":"a","source":"s","version":"1"}', BAD_NAME),
+        ("forget", '{"arch":"amd64","source":"hello"}', "400 BadBody"),
+        ("forget", '{"arch":"amd64","version":"1.0-1"}', "400 BadBody"),
+        ("forget", '{"source":"hello","version":"1.0-1"}', "400 BadBody"),
+        ("forget", '{"arch":"armhf","source":"hello","version":"1.0-1"}', UNKNOWN_ARCH),
+        ("forget", '{"arch":"amd64","source":"bash","version":"1.0-1"}', UNKNOWN_SOURCE),
+        ("forget", '{"arch":"amd64","source":"hello","version":"1.0-2"}', OTHER_VERSION),
     )
 ]
 BODIES += [
@@ -459,6 +485,19 @@ COMMANDS = [
         ok(accepted=26, ok="dep-wait"),
     ),
     (got("item/armhf/bash"), ok(**ENTERED | {"state": "Dep-Wait", "waits": "libz"})),
+    (posted("give-back", '{"arch":"armhf","source":"bash","version":"5.2-1"}'), ok(accepted=27, ok="give-back")),
+    (posted("next", '{"arch":"armhf","builder":"b4"}'), assigned(28, 5, "next", "bash", "5.2-1", arch="armhf")),
+    (posted("forget", '{"arch":"armhf","source":"bash","version":"5.2-1"}'), STILL_HELD),
+    (posted("remove-builder", '{"name":"b4","arch":"armhf"}'), STILL_HELD),
+    (posted("remove-arch", '{"name":"armhf"}'), STILL_HELD),
+    (posted("put-back", '{"take":5}'), ok(accepted=29, ok="put-back")),
+    (posted("forget", '{"arch":"armhf","source":"bash","version":"5.2-1"}'), ok(accepted=30, ok="forget")),
+    (got("item/armhf/bash"), UNKNOWN_SOURCE),
+    (posted("remove-builder", '{"name":"b4","arch":"armhf"}'), ok(accepted=31, ok="remove-builder")),
+    (got("mine/b4"), UNKNOWN_BUILDER),
+    (posted("next", '{"arch":"armhf","builder":"b4"}'), UNKNOWN_BUILDER),
+    (posted("remove-arch", '{"name":"armhf"}'), ok(accepted=32, ok="remove-arch")),
+    (got("summary/armhf"), UNKNOWN_ARCH),
 ]
 
 # ---- reports

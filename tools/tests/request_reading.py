@@ -67,6 +67,7 @@ HEAD_LIMIT, FIELD_LIMIT, BODY_LIMIT, DEPTH_LIMIT = 8192, 32, 16777216, 127
 SUBJECT = {"arch": str, "source": str, "version": str}
 FORMS = {
     "add-arch": {"name": str, "os": str, "cpu": str}, "add-builder": {"name": str, "arch": str},
+    "remove-arch": {"name": str}, "remove-builder": {"name": str, "arch": str}, "forget": SUBJECT,
     "enter": {**SUBJECT, "priority": str, "section": str}, "next": {"arch": str, "builder": str, "after": int},
     "take": {**SUBJECT, "builder": str}, "built": {"take": int},
     "uploaded": {"take": int}, "waits": {"take": int, "relations": str}, "attempted": {"take": int, "reason": str},

@@ -159,6 +159,27 @@ def follows_a_package(folder):
     expect((met["built"], met["building"]) == (2, 0), f"a build priority ends a build: {met}")
 
 
+def follows_what_is_removed(folder):
+    """A record that is forgotten, and each of an architecture that is removed; a builder that is has no records."""
+    one = example()
+    one.add(on(12, "19:55:00"), "put-back", take=4)
+    one.add(on(12, "19:56:00"), "forget", arch="amd64", source="zlib", version="1:1.3")
+    one.add(on(12, "19:57:00"), "remove-builder", name="a1", arch="arm64")
+    one.add(on(12, "19:58:00"), "remove-arch", name="arm64")
+    one.add(on(12, "19:59:00"), "enter", arch="amd64", source="zlib", version="1:1.4", priority="a", section="b")
+
+    def rows(*key):
+        said = call(folder, "-", "package", *key, "--json", said=one.data()).splitlines()
+        return [(row["command"], row["state"]) for row in map(json.loads, said)]
+
+    wanted = [("put-back", "Needs-Build"), ("forget", "removed"), ("enter", "Needs-Build")]
+    expect(rows("amd64", "zlib")[-3:] == wanted, f"{rows('amd64', 'zlib')}")
+    expect(rows("arm64", "tar")[-1] == ("remove-arch", "removed"), f"{rows('arm64', 'tar')}")
+    expect(rows("amd64", "tar")[-1][0] == "uploaded", f"another architecture: {rows('amd64', 'tar')}")
+    met = call(folder, "-", "ages", "--arch", "arm64", said=one.data())
+    expect("arm64" not in met.replace("of arm64", ""), f"what was removed has an age: {met}")
+
+
 def says_how_old_things_are(folder):
     """What builds and what waits, the longest first, and whether a merge or a report came since."""
     one = example()
@@ -696,8 +717,8 @@ def names_who_gave_each_command(folder):
 
 
 TESTS = [
-    follows_a_package, names_who_gave_each_command, says_how_old_things_are, fits_a_terminal, says_what_builders_did,
-    suspects_what_hangs, counts_by_day, finds_gaps,
+    follows_a_package, follows_what_is_removed, names_who_gave_each_command, says_how_old_things_are, fits_a_terminal,
+    says_what_builders_did, suspects_what_hangs, counts_by_day, finds_gaps,
 ]
 TESTS += [
     goes_on_after_a_cut_line, reports_malformed_lines, takes_the_words_that_it_says, is_quick, asks_a_serving_office,

@@ -108,6 +108,15 @@ LINES = [
         },
     ),
     ("summary amd64", None),
+    (
+        "forget amd64 hello 2.0",
+        {"arch": "amd64", "command": "forget", "source": "hello", "version": "2.0"},
+    ),
+    ("forget amd64 hello 2.0", None),
+    ("remove-builder b1 amd64", {"arch": "amd64", "command": "remove-builder", "name": "b1"}),
+    ("remove-builder b1 amd64", None),
+    ("remove-arch amd64", {"command": "remove-arch", "name": "amd64"}),
+    ("remove-arch amd64", None),
 ]
 
 

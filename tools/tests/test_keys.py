@@ -36,6 +36,7 @@ SUBJECT = {"arch": "amd64", "source": "none", "version": "1.0"}
 # Each request, of which none that is let through moves what another one is about.
 COMMANDS = [
     ("add-arch", {"name": "any", "os": "linux", "cpu": "x"}), ("add-builder", {"name": "b1", "arch": "none"}),
+    ("remove-arch", {"name": "none"}), ("remove-builder", {"name": "b1", "arch": "none"}),
     ("enter", {**SUBJECT, "arch": "none", "priority": "optional", "section": "devel"}),
     *(("next", {"arch": "none", "builder": name}) for name in ("b1", "b2")),
     *(("take", {**SUBJECT, "builder": name}) for name in ("b1", "b2")),
@@ -44,7 +45,7 @@ COMMANDS = [
     *((name, {**SUBJECT, "arch": arch, "note": ""}) for name in ("fail", "not-for-us") for arch in ("amd64", "arm64")),
     *(("rebuild", {**SUBJECT, "arch": arch, "number": 1, "message": ""}) for arch in ("amd64", "arm64")),
     *(("build-priority", {**SUBJECT, "arch": arch, "value": 1}) for arch in ("amd64", "arm64")),
-    *(("report", {"arch": arch, "text": "x"}) for arch in ("amd64", "arm64", "none")),
+    ("forget", SUBJECT), *(("report", {"arch": arch, "text": "x"}) for arch in ("amd64", "arm64", "none")),
     ("merge", {"sources": "none", "parts": [{"arch": "amd64", "packages": "none"}]}),
     *((name, {"take": take, **more}) for take in (1, 2, 3, 9) for name, more in (
         ("waits", {"relations": "("}), ("attempted", {"reason": "x" * 1001}),

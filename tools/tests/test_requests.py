@@ -26,7 +26,8 @@ import request_cases as by_hand
 import request_queries
 from harness import SEED, Failure, expect, main, trial_program
 from request_reading import BODY_LIMIT, FAULTS, FORMS, HEAD_LIMIT, PHRASES, QUERIES, judge
-from office_model import ADDED, ARCHS, HELD, MOVES, PRIORITIES, RELATIONS, STATES, STATUSES, Office, Record
+from office_model import ADDED, ARCHS, BUILDERS, HELD, MOVES, PRIORITIES, RELATIONS, REMOVED, STATES, STATUSES
+from office_model import Office, Record
 from request_parts import ARCH_NAMES, ARCH_WORDS, BYTES, FIELDS, LABELS, NEEDED, ODD_LINES, OTHERS, REASONS
 from request_parts import TARGET_PARTS, TARGETS, VERSIONS
 
@@ -113,6 +114,8 @@ class Maker:
     def body(self, name):
         """A body for this command, most often one that is accepted."""
         pick, records = self.choice, list(self.office.records.values())
+        if name == "forget":
+            records = self.forgettable(records)
         fitting = [record for record in records if name in MOVES and record.state in MOVES[name][0].split()] or records
         record = pick.choice(fitting if pick.random() < 0.9 else records)
         version = (
@@ -126,6 +129,8 @@ class Maker:
         values = {"arch": arch, "source": record.source, "version": version, "builder": pick.choice(builders)}
         if name in ADDED:
             values |= self.added(name, record)
+        if name in REMOVED:
+            values |= self.removed(name)
         if pick.random() < 0.06:
             values[pick.choice(["arch", "source"])] = pick.choice(["armhf", "nosuch", "all", "x" * 40, "_", ""])
         values |= {
@@ -161,6 +166,24 @@ class Maker:
             "priority": pick.choice(LABELS[:8] if pick.random() < 0.8 else LABELS),
             "section": pick.choice(LABELS[:8] if pick.random() < 0.8 else LABELS),
         }
+
+    def forgettable(self, records):
+        """The records that may be forgotten. Of those with which the office began these are the held ones alone, which
+        are refused: others need them."""
+        found = [record for record in records if record.holder or record.source.startswith("new")]
+        return found or [Record(ARCHS[0], "nosuch", "1.0", "", "", "Needs-Build")]
+
+    def removed(self, name):
+        """Which architecture, or which builder from which architecture, is removed: so too."""
+        pick, office = self.choice, self.office
+        held = sorted({(record.holder, record.arch) for record in office.records.values() if record.holder})
+        if name == "remove-arch":
+            later = [arch for arch in office.archs if arch not in ARCHS]
+            return {"name": pick.choice([*later, *later, *(arch for _, arch in held), "s390x", "all"])}
+        pairs = [(builder, arch) for builder, archs in office.builders.items() for arch in sorted(archs)]
+        later = [(builder, arch) for builder, arch in pairs if arch not in BUILDERS.get(builder, ())]
+        others = [("b9", ARCHS[0]), ("b1", "s390x"), ("-", ARCHS[0])]
+        return dict(zip(("name", "arch"), pick.choice([*later, *later, *held, *others]))) if name != "forget" else {}
 
     def report(self, arch):
         """Some lines of a report, of which most can be read."""

@@ -115,6 +115,16 @@ COMMANDS = [
         "enter armhf s1 : extra libs", 422,
     ),
     ("next", {"arch": "armhf", "builder": "b4"}, "next armhf b4", 200),
+    ("forget", {"arch": "armhf", "source": "s0", "version": "1.0"}, "forget armhf s0 1.0", 409),
+    ("remove-builder", {"name": "b4", "arch": "armhf"}, "remove-builder b4 armhf", 409),
+    ("remove-arch", {"name": "armhf"}, "remove-arch armhf", 409),
+    ("give-back", {"arch": "armhf", "source": "s0", "version": "1.0"}, "give-back armhf s0 1.0", 200),
+    ("forget", {"arch": "armhf", "source": "s0", "version": "1.0"}, "forget armhf s0 1.0", 200),
+    ("forget", {"arch": "armhf", "source": "s0", "version": "1.0"}, "forget armhf s0 1.0", 404),
+    ("remove-builder", {"name": "b4", "arch": "armhf"}, "remove-builder b4 armhf", 200),
+    ("remove-builder", {"name": "b4", "arch": "armhf"}, "remove-builder b4 armhf", 404),
+    ("remove-arch", {"name": "armhf"}, "remove-arch armhf", 200),
+    ("remove-arch", {"name": "armhf"}, "remove-arch armhf", 404),
 ]
 
 

@@ -85,6 +85,8 @@ RAISED = 348000  # what a rank of format 2 has more: 1,000 build priorities come
 RUNS = {
     "add-arch": (OFFICE, ["add-arch riscv64 linux riscv64"]),
     "add-builder": (OFFICE, ["add-builder b1 arm64"]),
+    "remove-arch": (OFFICE, ["remove-arch arm64"]),
+    "remove-builder": (OFFICE, ["remove-builder b2 arm64"]),
     "enter": (OFFICE, ["enter amd64 zlib 1:1.2 optional libs"]),
     "next": (OFFICE, ["next amd64 b1"]),
     "next-after": (HELD, ["next amd64 b1 --after 1"]),
@@ -100,6 +102,7 @@ RUNS = {
     "not-for-us": (HELD, ["not-for-us amd64 hello 1.0"]),
     "rebuild": (HELD, ["uploaded 1", "merge sources amd64=packages", "rebuild amd64 tar 1.30 1 new libc"]),
     "build-priority": (OFFICE, ["build-priority amd64 hello 1.0 7"]),
+    "forget": (OFFICE, ["forget amd64 tar 1.30"]),
     "report": (OFFICE, ["report amd64 missing"]),
     "report-back": (OFFICE + ["report amd64 missing"], ["report amd64 there"]),
     "merge": (HELD, ["merge sources amd64=packages arm64=none"]),

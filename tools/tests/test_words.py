@@ -78,17 +78,25 @@ LINES = [
     "report amd64 Sources",
     "depends amd64 new",
     "depends armhf new",
+    "forget amd64 new 2",
+    "forget amd64 new 2",
+    "remove-builder b1 amd64",
+    "remove-builder b1 amd64",
     "summary amd64",
     "summary armhf",
     "office",
     "archs",
     "builders",
+    "remove-arch amd64",
+    "remove-arch amd64",
 ]
 
 # The words of each subcommand, as they are accepted as words.
 GOOD = {
     "add-arch": ["amd64", "linux", "amd64"],
     "add-builder": ["b1", "amd64"],
+    "remove-arch": ["amd64"],
+    "remove-builder": ["b1", "amd64"],
     "enter": ["amd64", "hello", "1.0", "optional", "devel"],
     "next": ["amd64", "b1"],
     "take": ["amd64", "b1", "hello", "1.0"],
@@ -103,6 +111,7 @@ GOOD = {
     "not-for-us": ["amd64", "hello", "1.0"],
     "rebuild": ["amd64", "hello", "1.0", "1"],
     "build-priority": ["amd64", "hello", "1.0", "5"],
+    "forget": ["amd64", "hello", "1.0"],
     "merge": ["Sources", "amd64=Packages"],
     "report": ["amd64", "report"],
     "queue": ["amd64"],
@@ -397,6 +406,9 @@ REFUSED_WORDS = [
     (["add-arch", "i386", "linux", "any"], "BadName", f'CPU is "any", and has to be {OS_CPU}'),
     (["add-builder", "b 1", "amd64"], "BadName", f'NAME is "b 1", and has to be {BUILDER}'),
     (["add-builder", "b1", "a_b"], "BadName", f'ARCH is "a_b", and has to be {ARCH}'),
+    (["remove-arch", "all"], "BadName", f'NAME is "all", and has to be {ARCH}'),
+    (["remove-builder", "b 1", "amd64"], "BadName", f'NAME is "b 1", and has to be {BUILDER}'),
+    (["remove-builder", "b1", "a_b"], "BadName", f'ARCH is "a_b", and has to be {ARCH}'),
     (["enter", "-", "new", "1.0", "a", "b"], "BadName", f'ARCH is "-", and has to be {ARCH}'),
     (["enter", "amd64", "x", "1.0", "optional", "devel"], "BadName", f'SOURCE is "x", and has to be {SOURCE}'),
     (["enter", "amd64", "new", "1.0", "", "devel"], "BadName", f'PRIORITY is "", and has to be {LABEL}'),
@@ -435,6 +447,9 @@ REFUSED_WORDS = [
         ["build-priority", "amd64", "hello", "1.0", "--", "-1001"], "BadNumber",
         "VALUE is -1001, and has to be from -1000 to 1000",
     ),
+    (["forget", "all", "hello", "1.0"], "BadName", f'ARCH is "all", and has to be {ARCH}'),
+    (["forget", "amd64", "h", "1.0"], "BadName", f'SOURCE is "h", and has to be {SOURCE}'),
+    (["forget", "amd64", "hello", "1_0"], "BadVersion", f'VERSION is "1_0": {NOT_A_VERSION}'),
     (["merge", "Sources", "amd64=Packages", "all=Packages"], "BadName", f'ARCH is "all", and has to be {ARCH}'),
     (["report", "source", "report"], "BadName", f'ARCH is "source", and has to be {ARCH}'),
     (["queue", "a b"], "BadName", f'ARCH is "a b", and has to be {ARCH}'),
@@ -450,6 +465,7 @@ REFUSED_WORDS = [
 REFUSED_OTHERWISE = [
     ["add-arch", "amd64", "linux", "amd64"], ["next", "armhf", "b1"], ["next", "amd64", "b9"], ["built", "7"],
     ["queue", "armhf"], ["item", "amd64", "none"], ["merge", "Sources", "amd64=Packages", "amd64=Packages"],
+    ["remove-arch", "amd64"], ["remove-builder", "b1", "amd64"], ["forget", "amd64", "hello", "1.0"],
 ]
 
 

@@ -17,3 +17,4 @@ pub mod PairLemmas
 pub mod ReducedLemmas
 pub mod StrayLemmas
 pub mod NamedLemmas
+mod ProvidedLemmas

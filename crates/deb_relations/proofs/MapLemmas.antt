@@ -6,19 +6,19 @@ use Rattle.std.specs.FinMap as finite
 use Rattle.std.specs.Cmp.Lexicographic.{nat_list_cmp_total}
 use Rattle.std.proofs.lemmas.Map.Lookups.{exact_bytes}
 use Rattle.deb_text.specs.Text.{text_cmp}
-use Rattle.deb_relations.specs.Satisfaction.{Pairs, versions_of, with_pair}
+use Rattle.deb_relations.specs.Satisfaction.{Offer, Pairs, versions_of, with_pair}
 use Rattle.deb_text.proofs.MapLemmas.{get-lookup, one-inserted}
 
 -- what is available, by its entries
 abbrev pub Rows : Type 0
-Rows = List (List ℕ × List (List ℕ))
+Rows = List (List ℕ × List Offer)
 
-pub versions-found : (pairs : Pairs) (es : Rows) (name : List ℕ) (found : Option (List (List ℕ))) → finite.from_entries {R = text_cmp} es ≡ pairs → lookup (is_at (text_cmp name)) es ≡ found → versions_of pairs name ≡ unwrap_or found []
+pub versions-found : (pairs : Pairs) (es : Rows) (name : List ℕ) (found : Option (List Offer)) → finite.from_entries {R = text_cmp} es ≡ pairs → lookup (is_at (text_cmp name)) es ≡ found → versions_of pairs name ≡ unwrap_or found []
 unfolding versions_of
 versions-found pairs es name found e h =
     ap (λ m. unwrap_or (finite.get m name) []) (sym e) ∙ ap (λ o. unwrap_or o []) (get-lookup nat_list_cmp_total es name ∙ h)
 
-pub pair-added : (pairs : Pairs) (es fs : Rows) (name version : List ℕ) (found : Option (List (List ℕ))) (made : List (List ℕ))
+pub pair-added : (pairs : Pairs) (es fs : Rows) (name : List ℕ) (version : Offer) (found : Option (List Offer)) (made : List Offer)
     → finite.from_entries {R = text_cmp} es ≡ pairs → lookup (is_at (text_cmp name)) es ≡ found
     → ((q : List ℕ) → lookup (is_at (text_cmp q)) fs ≡ cond (is_at (text_cmp name) q) (Some made) (lookup (is_at (text_cmp q)) es))
     → made ≡ unwrap_or found [] ++ version ∷ []

@@ -11,7 +11,7 @@ use Rattle.std.proofs.lemmas.Slice.Eq.{bytes_eq-Decides}
 use Rattle.deb_text.specs.Lists.{IsIn}
 use Rattle.deb_text.specs.Text.{text_cmp}
 use Rattle.deb_relations.specs.declared.relations.Alternative.{Alternative}
-use Rattle.deb_relations.specs.Satisfaction.{Pairs, versions_of, meets_restriction, is_alternative_met, is_group_met, satisfied, all_names, each_once, names_of, is_among, with_name, IsNameTest, HaveSamePairs}
+use Rattle.deb_relations.specs.Satisfaction.{Offer, Pairs, versions_of, meets_restriction, is_alternative_met, is_group_met, satisfied, all_names, each_once, names_of, is_among, with_name, IsNameTest, HaveSamePairs}
 
 -- ---- each once
 
@@ -169,7 +169,7 @@ all-right P (x ∷ xs) ys h = all-right P xs ys h.1
 
 module _ (one other : Pairs) where
   met-same : (a : Alternative)
-      → ((version : List ℕ) → IsIn version (versions_of one a.name) ↔ IsIn version (versions_of other a.name))
+      → ((version : Offer) → IsIn version (versions_of one a.name) ↔ IsIn version (versions_of other a.name))
       → is_alternative_met one a ≡ is_alternative_met other a
   unfolding is_alternative_met
   met-same a same = any-same (meets_restriction a.restriction) (versions_of one a.name) (versions_of other a.name) same

@@ -13,7 +13,7 @@ use Rattle.std.proofs.lemmas.List.Elements.{Contains-append_left, Contains-appen
 use Rattle.std.proofs.lemmas.Map.Lookups.{exact_bytes}
 use Rattle.deb_relations.specs.declared.relations.Alternative.{Alternative}
 use Rattle.deb_text.specs.Text.{text_cmp}
-use Rattle.deb_relations.specs.Satisfaction.{Pairs, no_pairs, versions_of, with_pair, meets_restriction, is_alternative_met, is_group_met, satisfied}
+use Rattle.deb_relations.specs.Satisfaction.{Offer, Pairs, no_pairs, versions_of, with_pair, meets_restriction, is_alternative_met, is_group_met, satisfied}
 
 eq-Equal : (o : Ordering) → is_eq o ≡ true → o ≡ Equal
 eq-Equal Less e = cc
@@ -26,12 +26,12 @@ same-name other name e = exact_bytes other name (eq-Equal (text_cmp other name) 
 name-same : (other name : List ℕ) → other ≡ name → eq_by_cmp text_cmp other name ≡ true
 name-same other name e = ap (λ n. eq_by_cmp text_cmp n name) e ∙ ap is_eq (tied_itself nat_list_cmp_total name)
 
-found-by : (b : Bool) (found : Option (List (List ℕ))) (versions : List (List ℕ)) → unwrap_or (cond b (Some versions) found) [] ≡ cond b versions (unwrap_or found [])
+found-by : (b : Bool) (found : Option (List Offer)) (versions : List Offer) → unwrap_or (cond b (Some versions) found) [] ≡ cond b versions (unwrap_or found [])
 found-by true found versions = refl
 found-by false found versions = refl
 
 -- the versions of a name, once a pair was added
-versions-added : (pairs : Pairs) (name version other : List ℕ)
+versions-added : (pairs : Pairs) (name : List ℕ) (version : Offer) (other : List ℕ)
     → versions_of (with_pair pairs name version) other
     ≡ cond (eq_by_cmp text_cmp other name) (versions_of pairs name ++ version ∷ []) (versions_of pairs other)
 unfolding versions_of with_pair
@@ -39,22 +39,22 @@ versions-added pairs name version other =
     ap (λ found. unwrap_or found []) (finite.get-insert nat_list_cmp_total pairs name (versions_of pairs name ++ version ∷ []) other)
     ∙ found-by (eq_by_cmp text_cmp other name) (finite.get pairs other) (versions_of pairs name ++ version ∷ [])
 
-none-in : (versions : List (List ℕ)) (version : List ℕ) → versions ≡ [] → Contains versions version → ⊥
+none-in : (versions : List Offer) (version : Offer) → versions ≡ [] → Contains versions version → ⊥
 none-in [] version e h = absurd (omega (arith, h.1))
 none-in (other ∷ versions) version e h = cc
 
-pub pairs-none : (name version : List ℕ) → Contains (versions_of no_pairs name) version → ⊥
+pub pairs-none : (name : List ℕ) (version : Offer) → Contains (versions_of no_pairs name) version → ⊥
 unfolding versions_of
 pairs-none name version h = none-in (versions_of no_pairs name) version (ap (λ found. unwrap_or found []) (finite.get-empty text_cmp name)) h
 
-alone-at : (version wanted : List ℕ) (k : ℕ) → k < 1 → get_or (version ∷ []) k wanted ≡ wanted → wanted ≡ version
+alone-at : (version wanted : Offer) (k : ℕ) → k < 1 → get_or (version ∷ []) k wanted ≡ wanted → wanted ≡ version
 alone-at version wanted zero few e = sym e
 alone-at version wanted (suc k) few e = absurd (omega arith)
 
-alone : (version wanted : List ℕ) → Contains (version ∷ []) wanted → wanted ≡ version
+alone : (version wanted : Offer) → Contains (version ∷ []) wanted → wanted ≡ version
 alone version wanted h = alone-at version wanted h.0 h.1 h.2
 
-there : (b : Bool) (pairs : Pairs) (name version other wanted : List ℕ) → eq_by_cmp text_cmp other name ≡ b
+there : (b : Bool) (pairs : Pairs) (name : List ℕ) (version : Offer) (other : List ℕ) (wanted : Offer) → eq_by_cmp text_cmp other name ≡ b
     → Contains (cond b (versions_of pairs name ++ version ∷ []) (versions_of pairs other)) wanted
     → Contains (versions_of pairs other) wanted ⊎ ((other ≡ name) × (wanted ≡ version))
 there true pairs name version other wanted e h =
@@ -64,35 +64,35 @@ there true pairs name version other wanted e h =
     ]
 there false pairs name version other wanted e h = inl h
 
-back-old : (b : Bool) (pairs : Pairs) (name version other wanted : List ℕ) → eq_by_cmp text_cmp other name ≡ b → Contains (versions_of pairs other) wanted
+back-old : (b : Bool) (pairs : Pairs) (name : List ℕ) (version : Offer) (other : List ℕ) (wanted : Offer) → eq_by_cmp text_cmp other name ≡ b → Contains (versions_of pairs other) wanted
     → Contains (cond b (versions_of pairs name ++ version ∷ []) (versions_of pairs other)) wanted
 back-old true pairs name version other wanted e h =
     Contains-append_left (versions_of pairs name) (version ∷ []) wanted (subst (λ n. Contains (versions_of pairs n) wanted) (same-name other name e) h)
 back-old false pairs name version other wanted e h = h
 
-back-new : (pairs : Pairs) (name version other wanted : List ℕ) → other ≡ name → wanted ≡ version
+back-new : (pairs : Pairs) (name : List ℕ) (version : Offer) (other : List ℕ) (wanted : Offer) → other ≡ name → wanted ≡ version
     → Contains (cond (eq_by_cmp text_cmp other name) (versions_of pairs name ++ version ∷ []) (versions_of pairs other)) wanted
 back-new pairs name version other wanted e same =
     let here : eq_by_cmp text_cmp other name ≡ true = name-same other name e in
     rw here (subst (λ w. Contains (versions_of pairs name ++ version ∷ []) w) (sym same) (Contains-push (versions_of pairs name) version))
 
-back : (pairs : Pairs) (name version other wanted : List ℕ) → Contains (versions_of pairs other) wanted ⊎ ((other ≡ name) × (wanted ≡ version))
+back : (pairs : Pairs) (name : List ℕ) (version : Offer) (other : List ℕ) (wanted : Offer) → Contains (versions_of pairs other) wanted ⊎ ((other ≡ name) × (wanted ≡ version))
     → Contains (cond (eq_by_cmp text_cmp other name) (versions_of pairs name ++ version ∷ []) (versions_of pairs other)) wanted
 back pairs name version other wanted (inl old) = back-old (eq_by_cmp text_cmp other name) pairs name version other wanted refl old
 back pairs name version other wanted (inr new) = back-new pairs name version other wanted new.0 new.1
 
-pub pairs-one : (pairs : Pairs) (name version other wanted : List ℕ)
+pub pairs-one : (pairs : Pairs) (name : List ℕ) (version : Offer) (other : List ℕ) (wanted : Offer)
     → Contains (versions_of (with_pair pairs name version) other) wanted ↔ (Contains (versions_of pairs other) wanted ⊎ ((other ≡ name) × (wanted ≡ version)))
 pairs-one pairs name version other wanted = (
   λ h. there (eq_by_cmp text_cmp other name) pairs name version other wanted refl
-      (subst (λ (versions : List (List ℕ)). Contains versions wanted) (versions-added pairs name version other) h),
-  λ h. subst (λ (versions : List (List ℕ)). Contains versions wanted) (sym (versions-added pairs name version other)) (back pairs name version other wanted h),
+      (subst (λ (versions : List Offer). Contains versions wanted) (versions-added pairs name version other) h),
+  λ h. subst (λ (versions : List Offer). Contains versions wanted) (sym (versions-added pairs name version other)) (back pairs name version other wanted h),
 )
 
 any-more : (b c : Bool) → b ≡ true → (b || c) ≡ true
 any-more b c e = rw e refl
 
-more-by : (b : Bool) (test : List ℕ → Bool) (pairs : Pairs) (name version other : List ℕ) → eq_by_cmp text_cmp other name ≡ b
+more-by : (b : Bool) (test : Offer → Bool) (pairs : Pairs) (name : List ℕ) (version : Offer) (other : List ℕ) → eq_by_cmp text_cmp other name ≡ b
     → list_any test (versions_of pairs other) ≡ true
     → list_any test (cond b (versions_of pairs name ++ version ∷ []) (versions_of pairs other)) ≡ true
 more-by true test pairs name version other e h =
@@ -100,7 +100,7 @@ more-by true test pairs name version other e h =
     ∙ any-more _ _ (ap (λ n. list_any test (versions_of pairs n)) (sym (same-name other name e)) ∙ h)
 more-by false test pairs name version other e h = h
 
-met-more : (pairs : Pairs) (name version : List ℕ) (a : Alternative) → is_alternative_met pairs a ≡ true → is_alternative_met (with_pair pairs name version) a ≡ true
+met-more : (pairs : Pairs) (name : List ℕ) (version : Offer) (a : Alternative) → is_alternative_met pairs a ≡ true → is_alternative_met (with_pair pairs name version) a ≡ true
 unfolding is_alternative_met
 met-more pairs name version a h =
     ap (list_any (meets_restriction a.restriction)) (versions-added pairs name version a.name)
@@ -124,7 +124,7 @@ all-stays p q f (x ∷ xs) h = both (p x) (q x) (list_all p xs) (list_all q xs) 
     both true false c d f g h = f refl
     both false b c d f g h = cc
 
-pub pairs-stay : (pairs : Pairs) (name version : List ℕ) (groups : List (List Alternative)) → satisfied pairs groups ≡ true → satisfied (with_pair pairs name version) groups ≡ true
+pub pairs-stay : (pairs : Pairs) (name : List ℕ) (version : Offer) (groups : List (List Alternative)) → satisfied pairs groups ≡ true → satisfied (with_pair pairs name version) groups ≡ true
 unfolding satisfied is_group_met
 pairs-stay pairs name version groups h =
     all-stays (is_group_met pairs) (is_group_met (with_pair pairs name version))

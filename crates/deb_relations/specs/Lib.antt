@@ -4,6 +4,7 @@ pub mod Faults
 pub mod Grammar
 pub mod Names
 pub mod Printing
+pub mod Provided
 pub mod Reader
 pub mod Reading
 pub mod Reduction

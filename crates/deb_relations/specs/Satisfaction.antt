@@ -1,7 +1,7 @@
--- What packages are available in which versions, and when they satisfy relations (Debian Policy 7.1).
-use Rattle.std.specs.Prelude.{◌≡◌, ◌↔◌, ℕ, Bool, true, not, List, [], ◌∷◌, ◌++◌, filter, map, bytes_eq, Option, None, Some, unwrap_or, if◌then◌else◌}
+-- What packages are available in which versions, and when they satisfy relations (Debian Policy 7.1 and 7.5).
+use Rattle.std.specs.Prelude.{◌≡◌, ◌↔◌, ℕ, Bool, true, false, not, List, [], ◌∷◌, ◌++◌, filter, map, bytes_eq, Option, None, Some, unwrap_or, if◌then◌else◌}
 use Rattle.std.specs.List.{AllByRecursion, flat_map, list_any, list_all}
-use Rattle.std.specs.Coded.{Coded, coded_ℕ, coded_list}
+use Rattle.std.specs.Coded.{Coded, coded_ℕ, coded_list, coded_option}
 use Rattle.std.specs.FinMap as map
 use Rattle.deb_version.specs.Operator.{meets}
 use Rattle.deb_text.specs.Lists.{IsIn}
@@ -9,32 +9,37 @@ use Rattle.deb_text.specs.Text.{text_cmp}
 use Rattle.deb_relations.specs.declared.relations.Restriction.{Restriction}
 use Rattle.deb_relations.specs.declared.relations.Alternative.{Alternative}
 
--- what is available: for each name the versions of its packages
+-- in which version a name is available; none of a name that is provided without one (Policy 7.5)
+abbrev pub Offer : Type 0
+Offer = Option (List ℕ)
+
+-- what is available: for each name the versions of its packages and of those that provide it
 abbrev pub Pairs : Type 0
-Pairs = map.FinMap text_cmp (List (List ℕ))
+Pairs = map.FinMap text_cmp (List Offer)
 
 -- the code of what is available
 abbrev pub coded_pairs : Coded Pairs
-coded_pairs = map.code (coded_list coded_ℕ) (coded_list (coded_list coded_ℕ))
+coded_pairs = map.code (coded_list coded_ℕ) (coded_list (coded_option (coded_list coded_ℕ)))
 
 -- nothing is available
 abbrev pub no_pairs : Pairs
 no_pairs = map.empty
 
--- the versions in which a package of a name is available
-unfoldable pub versions_of : Pairs → List ℕ → List (List ℕ)
+-- the versions in which a name is available
+unfoldable pub versions_of : Pairs → List ℕ → List Offer
 versions_of pairs name = unwrap_or (map.get pairs name) []
 
 -- what is available, with one more version of a name
-unfoldable pub with_pair : Pairs → List ℕ → List ℕ → Pairs
+unfoldable pub with_pair : Pairs → List ℕ → Offer → Pairs
 with_pair pairs name version = map.insert pairs name (versions_of pairs name ++ version ∷ [])
 
--- whether a version is one that is asked for (Policy 7.1)
-abbrev pub meets_restriction : Option Restriction → List ℕ → Bool
+-- whether a version is one that is asked for (Policy 7.1); a name without a version meets no restriction (Policy 7.5)
+abbrev pub meets_restriction : Option Restriction → Offer → Bool
 meets_restriction None version = true
-meets_restriction (Some asked) version = meets asked.op version asked.version
+meets_restriction (Some asked) None = false
+meets_restriction (Some asked) (Some version) = meets asked.op version asked.version
 
--- whether a package of the alternative's name is available in a version that it asks for (Policy 7.1; that a qualifier plays no part is this project's own)
+-- whether the alternative's name is available in a version that it asks for (Policy 7.1; that a qualifier plays no part is this project's own)
 unfoldable pub is_alternative_met : Pairs → Alternative → Bool
 is_alternative_met pairs a = list_any (meets_restriction a.restriction) (versions_of pairs a.name)
 
@@ -76,4 +81,4 @@ IsNameTest test names = (name : List ℕ) → test name ≡ is_among name names
 -- the same versions of each of these names are available
 abbrev pub HaveSamePairs : Pairs → Pairs → List (List ℕ) → Type 0
 HaveSamePairs one other names =
-    AllByRecursion (λ name. (version : List ℕ) → IsIn version (versions_of one name) ↔ IsIn version (versions_of other name)) names
+    AllByRecursion (λ name. (version : Offer) → IsIn version (versions_of one name) ↔ IsIn version (versions_of other name)) names

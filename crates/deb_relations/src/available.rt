@@ -1,8 +1,11 @@
-//! The packages that are available, and whether they satisfy relations.
+//! The packages that are available, by their own names and by those that they provide, and whether
+//! they satisfy relations.
 
-ghost use Rattle.std.specs.Prelude.{◌≡◌, OnOk, OnErr};
+ghost use Rattle.std.specs.Prelude.{◌≡◌, OnOk, OnErr, Some};
 ghost use Rattle.std.specs.List.{list_any};
-ghost use Rattle.deb_relations.specs.Satisfaction.{no_pairs, with_pair, versions_of, meets_restriction, is_alternative_met, is_group_met, satisfied};
+ghost use Rattle.deb_relations.specs.Satisfaction.{no_pairs, with_pair, versions_of};
+ghost use Rattle.deb_relations.specs.Satisfaction.{meets_restriction, is_alternative_met};
+ghost use Rattle.deb_relations.specs.Satisfaction.{is_group_met, satisfied};
 
 use crate::relations::{Alternative, Relations, Restriction};
 use deb_text::{Items, Text};
@@ -11,13 +14,14 @@ use std::alloc::{AllocError, Global};
 use std::collections::BTreeMap;
 use std::marker::Model;
 
-/// The packages that are available: pairs of a name and a version, kept by name.
+/// The packages that are available: pairs of a name and a version, kept by name. A name that is
+/// provided without a version has none.
 /// Contracts see the map from each name to its versions, in the order in which they were added.
-/// Source: this project's own.
+/// Source: Debian Policy 7.5; this project's own.
 #[derive(Drop)]
 pub struct Available {
     alloc: Global,
-    versions: BTreeMap<Text, Items<Version>>,
+    versions: BTreeMap<Text, Items<Option<Version>>>,
 }
 
 impl Model for Available {
@@ -47,6 +51,17 @@ impl Available {
     /// form. The only error is that memory ran out; what is available then stays as it was.
     /// Source: this project's own.
     pub fn add(&mut self, name: &str, version: Version) -> Result<(), AllocError>
+        ensures value { OnOk result (self.new ≡ with_pair self.old name.now (Some version)) }
+        ensures unchanged { OnErr result (self.new ≡ self.old) }
+    {
+        self.provide(name, Some(version))
+    }
+
+    /// Adds a name that a package provides, in a version or without one, which may be there
+    /// already; the name may have any form. The only error is that memory ran out; what is
+    /// available then stays as it was.
+    /// Source: Debian Policy 7.5.
+    pub fn provide(&mut self, name: &str, version: Option<Version>) -> Result<(), AllocError>
         ensures value { OnOk result (self.new ≡ with_pair self.old name.now version) }
         ensures unchanged { OnErr result (self.new ≡ self.old) }
     {
@@ -64,8 +79,8 @@ impl Available {
         }
     }
 
-    // The versions in which a package of the name is available.
-    fn versions_of(&self, name: &Text) -> &[Version]
+    // The versions in which the name is available.
+    fn versions_of(&self, name: &Text) -> &[Option<Version>]
         ensures { result.now ≡ versions_of self.now name.now }
     {
         match self.versions.get(name) {
@@ -75,12 +90,14 @@ impl Available {
     }
 }
 
-fn is_asked(asked: &Option<Restriction>, version: &Version) -> bool
+// Whether it is available in the version that is asked for, if one is.
+fn is_asked(asked: &Option<Restriction>, version: &Option<Version>) -> bool
     ensures { result ≡ meets_restriction asked.now version.now }
 {
-    match asked {
-        Some(asked) => meets(asked.op, version, &asked.version),
-        None => true,
+    match (asked, version) {
+        (None, _) => true,
+        (Some(_), None) => false,
+        (Some(asked), Some(version)) => meets(asked.op, version, &asked.version),
     }
 }
 
@@ -109,9 +126,10 @@ fn is_group_met(available: &Available, group: &[Alternative]) -> bool
 }
 
 impl Relations {
-    /// Whether each group has an alternative whose package is available in a version that the
-    /// alternative asks for. Qualifiers, architectures and build profiles play no part. It takes no memory.
-    /// Source: Debian Policy 7.1.
+    /// Whether each group has an alternative whose name is available in a version that the
+    /// alternative asks for. Qualifiers, architectures and build profiles play no part. It takes no
+    /// memory.
+    /// Source: Debian Policy 7.1 and 7.5.
     #[tactic(auto, unfolding(crate::specs::Satisfaction::satisfied))]
     pub fn satisfied(&self, available: &Available) -> bool
         ensures value { result ≡ satisfied available.now self.now }

@@ -1,19 +1,32 @@
 //! The reading of relations, part by part.
 
-ghost use Rattle.std.specs.Prelude.{◌≡◌, ◌≢◌, ◌<◌, ◌==◌, true, false, not, List, ℕ, Some, None, is_some, length, filter, IfOk, IfErr, if◌then◌else◌};
+ghost use Rattle.std.specs.Prelude.{◌≡◌, ◌≢◌, ◌<◌, ◌==◌, true, false, not, List, ℕ, Some, None};
+ghost use Rattle.std.specs.Prelude.{is_some, length, filter, IfOk, IfErr, if◌then◌else◌};
 ghost use Rattle.std.specs.Option.{option_map};
 ghost use Rattle.std.specs.List.{list_all, slice_split};
 ghost use Rattle.deb_version.specs.Syntax.{fault_of, is_version_text};
-ghost use Rattle.deb_relations.specs.Grammar.{is_blank_text, is_word, op_of, words, are_alike, is_not_blank, is_right_angle, Reads, relations_limit};
-ghost use Rattle.deb_relations.specs.Reader.{between, read_name, read_qualifier, restriction_of, read_restriction, signed, term_of, terms_of, with_group, arch_terms_of, read_archs, profile_of, read_profiles, read_alternative, read_group, read_groups};
+ghost use Rattle.deb_relations.specs.Grammar.{is_blank_text, is_word, op_of, words, are_alike};
+ghost use Rattle.deb_relations.specs.Grammar.{is_not_blank, is_right_angle, Reads, relations_limit};
+ghost use Rattle.deb_relations.specs.Reader.{between, read_name, read_qualifier, restriction_of};
+ghost use Rattle.deb_relations.specs.Reader.{read_restriction, signed, term_of, terms_of};
+ghost use Rattle.deb_relations.specs.Reader.{with_group, arch_terms_of, read_archs, profile_of};
+ghost use Rattle.deb_relations.specs.Reader.{read_profiles, read_alternative, read_group};
+ghost use Rattle.deb_relations.specs.Reader.{read_groups};
 ghost use Rattle.deb_text.specs.Options.{all_some};
 ghost use Rattle.deb_relations.specs.Scanner.{halves_of};
 ghost use Rattle.deb_relations.specs.Faults.{fault_from_version};
-ghost use Rattle.deb_relations.specs.Reading.{place_of, end_before, name_fault, version_fault, asked_fault, restriction_fault, words_fault, archs_fault, list_fault, profiles_fault, alternative_fault, group_fault, groups_fault, reading_of, begins_with_name, is_group_begun, takes_memory, begins_asked, begins_inside, begins_with_term, begins_profile};
+ghost use Rattle.deb_relations.specs.Reading.{place_of, end_before, name_fault, version_fault};
+ghost use Rattle.deb_relations.specs.Reading.{asked_fault, restriction_fault, words_fault};
+ghost use Rattle.deb_relations.specs.Reading.{archs_fault, list_fault, profiles_fault};
+ghost use Rattle.deb_relations.specs.Reading.{alternative_fault, group_fault, groups_fault};
+ghost use Rattle.deb_relations.specs.Reading.{reading_of, begins_with_name, is_group_begun};
+ghost use Rattle.deb_relations.specs.Reading.{takes_memory, begins_asked, begins_inside};
+ghost use Rattle.deb_relations.specs.Reading.{begins_with_term, begins_profile};
 ghost use Rattle.deb_relations.specs.declared.relations.Kind.TheVariants.{Arch};
 ghost use Rattle.deb_text.specs.Lists.{begins};
 ghost use Rattle.deb_relations.specs.declared.relations.Alternative.{Alternative};
-ghost use Rattle.deb_relations.specs.declared.fault.RelationFault.TheVariants.{BadName, Unclosed, TooLong, Memory};
+ghost use Rattle.deb_relations.specs.declared.fault.RelationFault.TheVariants.{BadName, Unclosed};
+ghost use Rattle.deb_relations.specs.declared.fault.RelationFault.TheVariants.{TooLong, Memory};
 
 use crate::fault::RelationFault;
 use crate::names::{is_arch_word, is_package_name};
@@ -401,7 +414,10 @@ fn add_group(
     Ok(())
 }
 
-fn read_groups(alloc: Global, text: &str) -> Result<Items<Items<Alternative>>, RelationFault>
+pub(crate) fn read_groups(
+    alloc: Global,
+    text: &str,
+) -> Result<Items<Items<Alternative>>, RelationFault>
     ensures ok { IfOk result (λ groups. read_groups text.now ≡ Some groups) }
     ensures none { IfErr result (λ fault. fault ≢ Memory → read_groups text.now ≡ None) }
     ensures refused { IfErr result (λ fault. fault ≢ Memory → fault ≡ groups_fault text.now) }
@@ -422,18 +438,18 @@ impl Relations {
     /// are skipped; alternatives stand between bars. An alternative is a package name, directly
     /// after it perhaps `:` and a qualifier, then perhaps an operator and a version in parentheses,
     /// architecture words in brackets, all negated by `!` or none, and any number of lists of build
-    /// profiles in angle brackets. White space separates them and means nothing else; none stands inside
-    /// a word or after `!`. The old operators `<` and `>` are read as `<=` and `>=`.
+    /// profiles in angle brackets. White space separates them and means nothing else; none stands
+    /// inside a word or after `!`. The old operators `<` and `>` are read as `<=` and `>=`.
     ///
-    /// Errors: `TooLong` above 65536 bytes, and before all else; `Memory` if memory ran out, which comes
-    /// after a first package name at the earliest; else, if the text has no reading, the first fault
-    /// from the left: that of the first piece between commas, and in it between bars, without a reading.
-    /// A bracket is closed in its own piece or not at all, and if it is not, only that is reported.
-    /// `BadVersion` has the fault of the text up to white space or `)`, and `Stray` the byte offset in
-    /// the whole text.
-    /// Source: Debian Policy 7.1, and of qualifiers and build profiles dpkg's deb-src-control(5); the
-    /// limit, the skipping of blank groups, the order of the faults and the reading of `<` and `>` are
-    /// this project's own.
+    /// Errors: `TooLong` above 65536 bytes, and before all else; `Memory` if memory ran out, which
+    /// comes after a first package name at the earliest; else, if the text has no reading, the
+    /// first fault from the left: that of the first piece between commas, and in it between bars,
+    /// without a reading. A bracket is closed in its own piece or not at all, and if it is not,
+    /// only that is reported. `BadVersion` has the fault of the text up to white space or `)`, and
+    /// `Stray` the byte offset in the whole text.
+    /// Source: Debian Policy 7.1, and of qualifiers and build profiles dpkg's deb-src-control(5);
+    /// the limit, the skipping of blank groups, the order of the faults and the reading of `<` and
+    /// `>` are this project's own.
     pub fn parse(alloc: Global, text: &str) -> Result<Relations, RelationFault>
         ensures value { IfOk result (λ relations. Reads text.now relations) }
         ensures ok { IfOk result (λ relations. reading_of text.now ≡ Ok relations) }

@@ -7,6 +7,7 @@
 mod control;
 mod feed;
 mod outcome;
+mod provides;
 mod relations;
 mod rows;
 mod speed;
@@ -32,8 +33,9 @@ fn main(rt: HostRuntime) -> Result<()> {
 // Cases are rows of data, and not tests: a test is proved like all other code, and a table of cases
 // costs the more the longer it is, though nothing is learnt from its proof. Those of requests are
 // given to `trials` in the same way.
-/// Tries the cases of a name, which picks what is tried: `version_..` and `relations..` are files
-/// of rows, and each other is a text of control data, `NAME.txt`, with its answer in `NAME.json`.
+/// Tries the cases of a name, which picks what is tried: `version_..`, `relations..` and
+/// `provides..` are files of rows, and each other is a text of control data, `NAME.txt`, with its
+/// answer in `NAME.json`.
 fn try_cases(rt: &HostRuntime, name: &str) -> Result<()> {
     let alloc = rt.alloc();
     let outcome = if name.starts_with("version_") {
@@ -42,6 +44,9 @@ fn try_cases(rt: &HostRuntime, name: &str) -> Result<()> {
     } else if name.starts_with("relations") {
         let rows = fs::read_to_string(rt, name)?;
         relations::tried(alloc, rows.as_str())?
+    } else if name.starts_with("provides") {
+        let rows = fs::read_to_string(rt, name)?;
+        provides::tried(alloc, rows.as_str())?
     } else {
         let bytes = fs::read(rt, format!(in alloc; "{name}.txt")?.as_str())?;
         let answer = fs::read_to_string(rt, format!(in alloc; "{name}.json")?.as_str())?;

@@ -3,7 +3,7 @@
 use deb_text::Text;
 use std::fmt;
 use wb_archive::ArchList;
-use wb_states::command::{AddArch, AddBuilder, Enter, Take};
+use wb_states::command::{AddArch, Enter, Take};
 use wb_states::{
     BUILD_PRIORITY_LIMIT, Command, NOTE_LIMIT, Query, REBUILD_LIMIT, Refusal, State, is_arch,
     is_builder, is_label, is_os_cpu, is_source,
@@ -179,8 +179,8 @@ fn bad_added_arch(adds: &AddArch) -> Option<Reason<'_>> {
         .or(bad_os_cpu("CPU", &adds.cpu))
 }
 
-fn bad_added_builder(adds: &AddBuilder) -> Option<Reason<'_>> {
-    bad_builder("NAME", &adds.name).or(bad_arch("ARCH", &adds.arch))
+fn bad_builder_of_arch<'a>(name: &'a Text, arch: &'a Text) -> Option<Reason<'a>> {
+    bad_builder("NAME", name).or(bad_arch("ARCH", arch))
 }
 
 fn bad_entry(enter: &Enter) -> Option<Reason<'_>> {
@@ -199,7 +199,9 @@ fn bad_take(take: &Take) -> Option<Reason<'_>> {
 fn bad_name_in(command: &Command) -> Option<Reason<'_>> {
     match command {
         Command::AddArch(adds) => bad_added_arch(adds),
-        Command::AddBuilder(adds) => bad_added_builder(adds),
+        Command::AddBuilder(adds) => bad_builder_of_arch(&adds.name, &adds.arch),
+        Command::RemoveArch(removes) => bad_arch("NAME", &removes.name),
+        Command::RemoveBuilder(removes) => bad_builder_of_arch(&removes.name, &removes.arch),
         Command::Enter(enter) => bad_entry(enter),
         Command::Next(next) => {
             bad_arch("ARCH", &next.arch).or(bad_builder("BUILDER", &next.builder))
@@ -210,6 +212,7 @@ fn bad_name_in(command: &Command) -> Option<Reason<'_>> {
         Command::Fail(aside) | Command::NotForUs(aside) => bad_key(&aside.arch, &aside.source),
         Command::Rebuild(rebuild) => bad_key(&rebuild.arch, &rebuild.source),
         Command::BuildPriority(priority) => bad_key(&priority.arch, &priority.source),
+        Command::Forget(forget) => bad_key(&forget.arch, &forget.source),
         Command::Report(report) => bad_arch("ARCH", &report.arch),
         Command::Built(_)
         | Command::Uploaded(_)
@@ -241,6 +244,7 @@ fn version_of(command: &Command) -> Option<&Text> {
         Command::Fail(aside) | Command::NotForUs(aside) => Some(&aside.version),
         Command::Rebuild(rebuild) => Some(&rebuild.version),
         Command::BuildPriority(priority) => Some(&priority.version),
+        Command::Forget(forget) => Some(&forget.version),
         _ => None,
     }
 }

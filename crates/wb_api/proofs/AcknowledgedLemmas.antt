@@ -6,7 +6,7 @@ use Rattle.wb_states.specs.Commands.{name_of_command}
 use Rattle.wb_states.specs.Machine.{Machine}
 use Rattle.wb_states.specs.declared.command.Command.{Command}
 use Rattle.wb_states.specs.declared.refusal.Refusal.{Refusal}
-use Rattle.wb_states.specs.declared.refusal.Refusal.TheVariants.{UnknownArch, UnknownBuilder, WrongArch, UnknownSource, OtherVersion, WrongState, QueueEmpty, NotHeld, AfterAhead, AlreadyThere, BadName, BadVersion, BadRelations, BadNumber, BadListing, BadReport, TextTooLong, Spent, RepeatedArch, Closed, Store, Memory}
+use Rattle.wb_states.specs.declared.refusal.Refusal.TheVariants.{UnknownArch, UnknownBuilder, WrongArch, UnknownSource, OtherVersion, WrongState, QueueEmpty, NotHeld, AfterAhead, AlreadyThere, BadName, BadVersion, BadRelations, BadNumber, BadListing, BadReport, TextTooLong, Spent, RepeatedArch, StillHeld, Closed, Store, Memory}
 use Rattle.wb_states.specs.declared.reply.Reply.{Reply}
 use Rattle.wb_step.specs.Offices.{Standing, Open}
 use Rattle.wb_step.specs.Step.{step}
@@ -53,6 +53,7 @@ refusal-not_ok (BadReport line) = not-200 422 (omega arith)
 refusal-not_ok TextTooLong = not-200 422 (omega arith)
 refusal-not_ok Spent = not-200 409 (omega arith)
 refusal-not_ok RepeatedArch = not-200 422 (omega arith)
+refusal-not_ok StillHeld = not-200 409 (omega arith)
 refusal-not_ok Closed = not-200 503 (omega arith)
 refusal-not_ok Memory = not-200 503 (omega arith)
 refusal-not_ok (Store fault) = not-200 503 (omega arith)

@@ -5,7 +5,7 @@ use Rattle.serde_json.specs.Written.{compact_text, items_text, has_float, items_
 use Rattle.serde_json.proofs.OnLiterals.{serde_json_on_literals}
 use Rattle.wb_states.specs.declared.refusal.ListingFault.TheVariants.{Control, Missing, BadValue}
 use Rattle.wb_states.specs.declared.refusal.Refusal.{Refusal}
-use Rattle.wb_states.specs.declared.refusal.Refusal.TheVariants.{UnknownArch, UnknownBuilder, WrongArch, UnknownSource, OtherVersion, WrongState, QueueEmpty, NotHeld, AfterAhead, AlreadyThere, BadName, BadVersion, BadRelations, BadNumber, BadListing, BadReport, TextTooLong, Spent, RepeatedArch, Closed, Store, Memory}
+use Rattle.wb_states.specs.declared.refusal.Refusal.TheVariants.{UnknownArch, UnknownBuilder, WrongArch, UnknownSource, OtherVersion, WrongState, QueueEmpty, NotHeld, AfterAhead, AlreadyThere, BadName, BadVersion, BadRelations, BadNumber, BadListing, BadReport, TextTooLong, Spent, RepeatedArch, StillHeld, Closed, Store, Memory}
 use Rattle.wb_states.specs.declared.reply.PartEnd.{PartEnd}
 use Rattle.wb_states.specs.declared.reply.PartEnd.TheVariants.{Merged as part_Merged, Refused}
 use Rattle.wb_states.specs.declared.reply.PartReply.{PartReply}
@@ -37,6 +37,7 @@ has_float-value_of_refusal (BadReport line) = refl
 has_float-value_of_refusal TextTooLong = refl
 has_float-value_of_refusal Spent = refl
 has_float-value_of_refusal RepeatedArch = refl
+has_float-value_of_refusal StillHeld = refl
 has_float-value_of_refusal Closed = refl
 has_float-value_of_refusal (Store fault) = refl
 has_float-value_of_refusal Memory = refl
@@ -66,6 +67,7 @@ compact_text-value_of_refusal (BadReport line) = refl
 compact_text-value_of_refusal TextTooLong = refl
 compact_text-value_of_refusal Spent = refl
 compact_text-value_of_refusal RepeatedArch = refl
+compact_text-value_of_refusal StillHeld = refl
 compact_text-value_of_refusal Closed = refl
 compact_text-value_of_refusal (Store fault) = refl
 compact_text-value_of_refusal Memory = refl
@@ -94,6 +96,7 @@ has_float-value_of_end arch (Refused (BadReport line)) = refl
 has_float-value_of_end arch (Refused TextTooLong) = refl
 has_float-value_of_end arch (Refused Spent) = refl
 has_float-value_of_end arch (Refused RepeatedArch) = refl
+has_float-value_of_end arch (Refused StillHeld) = refl
 has_float-value_of_end arch (Refused Closed) = refl
 has_float-value_of_end arch (Refused (Store fault)) = refl
 has_float-value_of_end arch (Refused Memory) = refl
@@ -124,6 +127,7 @@ compact_text-value_of_end arch (Refused (BadReport line)) = refl
 compact_text-value_of_end arch (Refused TextTooLong) = refl
 compact_text-value_of_end arch (Refused Spent) = refl
 compact_text-value_of_end arch (Refused RepeatedArch) = refl
+compact_text-value_of_end arch (Refused StillHeld) = refl
 compact_text-value_of_end arch (Refused Closed) = refl
 compact_text-value_of_end arch (Refused (Store fault)) = refl
 compact_text-value_of_end arch (Refused Memory) = refl

@@ -4,14 +4,15 @@ use Rattle.std.specs.Prelude.{codes, is_some, option_and_then}
 use Rattle.std.proofs.Math.Bool.{and-true}
 use Rattle.serde_json.specs.Data.{Data}
 use Rattle.wb_api.specs.Commands.{Named, add_arch_in, add_builder_in, attempted_in, build_priority_in, command_in}
-use Rattle.wb_api.specs.Commands.{dep_wait_in, enter_in, fail_in}
+use Rattle.wb_api.specs.Commands.{dep_wait_in, enter_in, fail_in, forget_in, remove_arch_in, remove_builder_in}
 use Rattle.wb_api.specs.Commands.{give_back_in, integer_in, next_in, not_for_us_in, number_in, number_or_none_in}
 use Rattle.wb_api.specs.Commands.{rebuild_in, report_in, named_source_in, take_in, text_in, waits_in}
-use Rattle.wb_api.specs.Keys.{has_keys, keys_of}
+use Rattle.wb_api.specs.Keys.{has_keys, keys_of, named}
 use Rattle.wb_api.specs.declared.route.CommandKind.{CommandKind}
-use Rattle.wb_api.specs.declared.route.CommandKind.TheVariants.{AddArch, AddBuilder, Enter, Next, Take, Built, Uploaded}
-use Rattle.wb_api.specs.declared.route.CommandKind.TheVariants.{Waits, PutBack, Attempted, GiveBack, DepWait, Fail}
-use Rattle.wb_api.specs.declared.route.CommandKind.TheVariants.{NotForUs, Rebuild, BuildPriority, Report}
+use Rattle.wb_api.specs.declared.route.CommandKind.TheVariants.{AddArch, AddBuilder, RemoveArch, RemoveBuilder, Enter}
+use Rattle.wb_api.specs.declared.route.CommandKind.TheVariants.{Next, Take, Built, Uploaded, Waits, PutBack, Attempted}
+use Rattle.wb_api.specs.declared.route.CommandKind.TheVariants.{GiveBack, DepWait, Fail, NotForUs, Rebuild}
+use Rattle.wb_api.specs.declared.route.CommandKind.TheVariants.{BuildPriority, Forget, Report}
 
 -- what is made of a value is there if the value is
 is_some-map : {X Y : Type 0} (f : X → Y) (o : Option X) → is_some (option_map f o) ≡ is_some o
@@ -61,6 +62,15 @@ add_builder : (body : Data) → is_some (add_builder_in body) ≡ has_keys (keys
 unfolding add_builder_in
 add_builder body = is_some-then _ _ (text_in (codes "name") body) (λ name. is_some-last _ (text_in (codes "arch") body))
 
+remove_arch : (body : Data) → is_some (remove_arch_in body) ≡ has_keys (keys_of RemoveArch) body
+unfolding remove_arch_in
+remove_arch body = is_some-last _ (text_in (codes "name") body)
+
+remove_builder : (body : Data) → is_some (remove_builder_in body) ≡ has_keys (keys_of RemoveBuilder) body
+unfolding remove_builder_in
+remove_builder body = is_some-then _ _ (text_in (codes "name") body) (λ name.
+    is_some-last _ (text_in (codes "arch") body))
+
 enter : (body : Data) → is_some (enter_in body) ≡ has_keys (keys_of Enter) body
 unfolding enter_in
 enter body = after-subject body _ _ (λ subject.
@@ -84,11 +94,15 @@ attempted : (body : Data) → is_some (attempted_in body) ≡ has_keys (keys_of 
 unfolding attempted_in
 attempted body = is_some-then _ _ (number_in (codes "take") body) (λ take_number. is_some-last _ (text_in (codes "reason") body))
 
+-- the keys of a source package, and no others
+named-alone : (body : Data) → is_some (named_source_in body) ≡ has_keys named body
+named-alone body =
+    is_some-subject body
+    ∙ ap (λ (b : Bool). is_some (text_in (codes "arch") body) && (is_some (text_in (codes "source") body) && b)) (sym (and-true (is_some (text_in (codes "version") body))))
+
 give_back : (body : Data) → is_some (give_back_in body) ≡ has_keys (keys_of GiveBack) body
 unfolding give_back_in
-give_back body =
-    is_some-map _ (named_source_in body) ∙ is_some-subject body
-    ∙ ap (λ (b : Bool). is_some (text_in (codes "arch") body) && (is_some (text_in (codes "source") body) && b)) (sym (and-true (is_some (text_in (codes "version") body))))
+give_back body = is_some-map _ (named_source_in body) ∙ named-alone body
 
 dep_wait : (body : Data) → is_some (dep_wait_in body) ≡ has_keys (keys_of DepWait) body
 unfolding dep_wait_in
@@ -111,6 +125,10 @@ build_priority : (body : Data) → is_some (build_priority_in body) ≡ has_keys
 unfolding build_priority_in
 build_priority body = after-subject body _ _ (λ subject. is_some-last _ (integer_in (codes "value") body))
 
+forget : (body : Data) → is_some (forget_in body) ≡ has_keys (keys_of Forget) body
+unfolding forget_in
+forget body = is_some-map _ (named_source_in body) ∙ named-alone body
+
 report : (body : Data) → is_some (report_in body) ≡ has_keys (keys_of Report) body
 unfolding report_in
 report body = is_some-then _ _ (text_in (codes "arch") body) (λ arch. is_some-last _ (text_in (codes "text") body))
@@ -118,6 +136,8 @@ report body = is_some-then _ _ (text_in (codes "arch") body) (λ arch. is_some-l
 pub is_some-command : (kind : CommandKind) (body : Data) → is_some (command_in kind body) ≡ has_keys (keys_of kind) body
 is_some-command AddArch body = add_arch body
 is_some-command AddBuilder body = add_builder body
+is_some-command RemoveArch body = remove_arch body
+is_some-command RemoveBuilder body = remove_builder body
 is_some-command Enter body = enter body
 is_some-command Next body = next body
 is_some-command Take body = take body
@@ -132,4 +152,5 @@ is_some-command Fail body = fail body
 is_some-command NotForUs body = not_for_us body
 is_some-command Rebuild body = rebuild body
 is_some-command BuildPriority body = build_priority body
+is_some-command Forget body = forget body
 is_some-command Report body = report body

@@ -11,14 +11,16 @@ use Rattle.wb_keys.specs.declared.right.Kind.{Kind}
 use Rattle.wb_keys.specs.declared.right.Kind.TheVariants as kind
 use Rattle.wb_states.specs.declared.command.Command.{Command}
 use Rattle.wb_api.specs.Commands.{add_arch_in, add_builder_in, attempted_in, build_priority_in, command_in}
-use Rattle.wb_api.specs.Commands.{dep_wait_in, enter_in, fail_in, give_back_in, next_in, not_for_us_in}
+use Rattle.wb_api.specs.Commands.{dep_wait_in, enter_in, fail_in, forget_in, give_back_in, next_in, not_for_us_in}
+use Rattle.wb_api.specs.Commands.{remove_arch_in, remove_builder_in}
 use Rattle.wb_api.specs.Commands.{integer_in, named_source_in, number_in, number_or_none_in, rebuild_in, report_in}
 use Rattle.wb_api.specs.Commands.{take_in, text_in, waits_in}
 use Rattle.wb_api.specs.Rights.{kind_of_path}
 use Rattle.wb_api.specs.declared.route.CommandKind.{CommandKind}
-use Rattle.wb_api.specs.declared.route.CommandKind.TheVariants.{AddArch, AddBuilder, Enter, Next, Take, Built, Uploaded}
-use Rattle.wb_api.specs.declared.route.CommandKind.TheVariants.{Waits, PutBack, Attempted, GiveBack, DepWait, Fail}
-use Rattle.wb_api.specs.declared.route.CommandKind.TheVariants.{NotForUs, Rebuild, BuildPriority, Report}
+use Rattle.wb_api.specs.declared.route.CommandKind.TheVariants.{AddArch, AddBuilder, RemoveArch, RemoveBuilder, Enter}
+use Rattle.wb_api.specs.declared.route.CommandKind.TheVariants.{Next, Take, Built, Uploaded, Waits, PutBack, Attempted}
+use Rattle.wb_api.specs.declared.route.CommandKind.TheVariants.{GiveBack, DepWait, Fail, NotForUs, Rebuild}
+use Rattle.wb_api.specs.declared.route.CommandKind.TheVariants.{BuildPriority, Forget, Report}
 
 -- what is found is of this kind
 unfoldable Has : Kind → Option Command → Type 0
@@ -46,6 +48,17 @@ add_arch-kind body =
 add_builder-kind : (body : Data) → Has kind.Operator (add_builder_in body)
 unfolding add_builder_in
 add_builder-kind body =
+    by-then kind.Operator _ (text_in (codes "name") body) (λ one.
+    by-map kind.Operator _ (text_in (codes "arch") body) (λ last. refl))
+
+remove_arch-kind : (body : Data) → Has kind.Operator (remove_arch_in body)
+unfolding remove_arch_in
+remove_arch-kind body =
+    by-map kind.Operator _ (text_in (codes "name") body) (λ last. refl)
+
+remove_builder-kind : (body : Data) → Has kind.Operator (remove_builder_in body)
+unfolding remove_builder_in
+remove_builder-kind body =
     by-then kind.Operator _ (text_in (codes "name") body) (λ one.
     by-map kind.Operator _ (text_in (codes "arch") body) (λ last. refl))
 
@@ -117,6 +130,11 @@ build_priority-kind body =
     by-then kind.Porter _ (named_source_in body) (λ one.
     by-map kind.Porter _ (integer_in (codes "value") body) (λ last. refl))
 
+forget-kind : (body : Data) → Has kind.Operator (forget_in body)
+unfolding forget_in
+forget-kind body =
+    by-map kind.Operator _ (named_source_in body) (λ last. refl)
+
 report-kind : (body : Data) → Has kind.Porter (report_in body)
 unfolding report_in
 report-kind body =
@@ -126,6 +144,8 @@ report-kind body =
 has-kind : (kind : CommandKind) (body : Data) → Has (kind_of_path kind) (command_in kind body)
 has-kind AddArch body = add_arch-kind body
 has-kind AddBuilder body = add_builder-kind body
+has-kind RemoveArch body = remove_arch-kind body
+has-kind RemoveBuilder body = remove_builder-kind body
 has-kind Enter body = enter-kind body
 has-kind Next body = next-kind body
 has-kind Take body = take-kind body
@@ -140,6 +160,7 @@ has-kind Fail body = fail-kind body
 has-kind NotForUs body = not_for_us-kind body
 has-kind Rebuild body = rebuild-kind body
 has-kind BuildPriority body = build_priority-kind body
+has-kind Forget body = forget-kind body
 has-kind Report body = report-kind body
 
 pub command-kind : (kind : CommandKind) (body : Data)

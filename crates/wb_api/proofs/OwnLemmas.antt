@@ -222,6 +222,8 @@ accepted-own builder machine (of.Attempted fields) fit may pass =
     reported-own builder fields.take_number machine (of.Attempted fields) fit may pass refl refl
 accepted-own builder machine (of.AddArch fields) fit may pass = cc
 accepted-own builder machine (of.AddBuilder fields) fit may pass = cc
+accepted-own builder machine (of.RemoveArch fields) fit may pass = cc
+accepted-own builder machine (of.RemoveBuilder fields) fit may pass = cc
 accepted-own builder machine (of.Enter fields) fit may pass = cc
 accepted-own builder machine (of.GiveBack fields) fit may pass = cc
 accepted-own builder machine (of.DepWait fields) fit may pass = cc
@@ -229,6 +231,7 @@ accepted-own builder machine (of.Fail fields) fit may pass = cc
 accepted-own builder machine (of.NotForUs fields) fit may pass = cc
 accepted-own builder machine (of.Rebuild fields) fit may pass = cc
 accepted-own builder machine (of.BuildPriority fields) fit may pass = cc
+accepted-own builder machine (of.Forget fields) fit may pass = cc
 accepted-own builder machine (of.Merge fields) fit may pass = cc
 accepted-own builder machine (of.Report fields) fit may pass = cc
 

@@ -2,7 +2,7 @@
 use Rattle.std.proofs.Common.{◌≡◌, refl, codes}
 use Rattle.std.specs.Fmt.{digits}
 use Rattle.json.specs.Print.{escape_byte}
-use Rattle.wb_states.specs.declared.refusal.Refusal.TheVariants.{UnknownArch, UnknownBuilder, WrongArch, UnknownSource, QueueEmpty, NotHeld, AlreadyThere, BadName, BadNumber, TextTooLong, Spent, Closed, Memory, RepeatedArch}
+use Rattle.wb_states.specs.declared.refusal.Refusal.TheVariants.{UnknownArch, UnknownBuilder, WrongArch, UnknownSource, QueueEmpty, NotHeld, AlreadyThere, BadName, BadNumber, TextTooLong, Spent, Closed, Memory, RepeatedArch, StillHeld}
 use Rattle.wb_api.specs.Encoding.{refusal_text, refusal_members}
 
 pub refusal_text-UnknownArch : refusal_text UnknownArch ≡ codes "{\"code\":1,\"refused\":\"UnknownArch\"}"
@@ -60,3 +60,7 @@ refusal_text-Memory = refl
 pub refusal_text-RepeatedArch : refusal_text RepeatedArch ≡ codes "{\"code\":22,\"refused\":\"RepeatedArch\"}"
 unfolding digits escape_byte refusal_text refusal_members
 refusal_text-RepeatedArch = refl
+
+pub refusal_text-StillHeld : refusal_text StillHeld ≡ codes "{\"code\":23,\"refused\":\"StillHeld\"}"
+unfolding digits escape_byte refusal_text refusal_members
+refusal_text-StillHeld = refl

@@ -10,9 +10,10 @@ use Rattle.wb_api.specs.declared.command.NamedSource.{NamedSource}
 use Rattle.wb_streams.specs.declared.fault.Fault.{Fault}
 use Rattle.wb_streams.specs.declared.fault.Fault.TheVariants.{BadBody}
 use Rattle.wb_api.specs.declared.route.CommandKind.{CommandKind}
-use Rattle.wb_api.specs.declared.route.CommandKind.TheVariants.{AddArch, AddBuilder, Enter, Next, Take, Built, Uploaded}
-use Rattle.wb_api.specs.declared.route.CommandKind.TheVariants.{Waits, PutBack, Attempted, GiveBack, DepWait, Fail}
-use Rattle.wb_api.specs.declared.route.CommandKind.TheVariants.{NotForUs, Rebuild, BuildPriority, Report}
+use Rattle.wb_api.specs.declared.route.CommandKind.TheVariants.{AddArch, AddBuilder, RemoveArch, RemoveBuilder, Enter}
+use Rattle.wb_api.specs.declared.route.CommandKind.TheVariants.{Next, Take, Built, Uploaded, Waits, PutBack, Attempted}
+use Rattle.wb_api.specs.declared.route.CommandKind.TheVariants.{GiveBack, DepWait, Fail, NotForUs, Rebuild}
+use Rattle.wb_api.specs.declared.route.CommandKind.TheVariants.{BuildPriority, Forget, Report}
 
 -- the text under a key
 abbrev pub text_in : List ℕ → Data → Option (List ℕ)
@@ -72,6 +73,15 @@ add_arch_in body = option_and_then (λ name. option_and_then (λ os. option_map 
 -- to let a builder build for an architecture
 unfoldable pub add_builder_in : Data → Option Command
 add_builder_in body = option_and_then (λ name. option_map (λ arch. form.AddBuilder name arch)
+    (text_in (codes "arch") body)) (text_in (codes "name") body)
+
+-- to take an architecture away
+unfoldable pub remove_arch_in : Data → Option Command
+remove_arch_in body = option_map (λ name. form.RemoveArch name) (text_in (codes "name") body)
+
+-- to let a builder build no more for an architecture
+unfoldable pub remove_builder_in : Data → Option Command
+remove_builder_in body = option_and_then (λ name. option_map (λ arch. form.RemoveBuilder name arch)
     (text_in (codes "arch") body)) (text_in (codes "name") body)
 
 -- to enter a source package
@@ -136,6 +146,10 @@ build_priority_in body = option_and_then (λ subject. option_map (λ value.
     form.BuildPriority subject.arch subject.source subject.version value)
     (integer_in (codes "value") body)) (named_source_in body)
 
+-- to take the record of a source package away
+unfoldable pub forget_in : Data → Option Command
+forget_in body = option_map (λ subject. form.Forget subject.arch subject.source subject.version) (named_source_in body)
+
 -- to report which source packages have what they need to be built
 unfoldable pub report_in : Data → Option Command
 report_in body = option_and_then (λ arch. option_map (λ text. form.Report arch text)
@@ -145,6 +159,8 @@ report_in body = option_and_then (λ arch. option_map (λ text. form.Report arch
 abbrev pub command_in : CommandKind → Data → Option Command
 command_in AddArch body = add_arch_in body
 command_in AddBuilder body = add_builder_in body
+command_in RemoveArch body = remove_arch_in body
+command_in RemoveBuilder body = remove_builder_in body
 command_in Enter body = enter_in body
 command_in Next body = next_in body
 command_in Take body = take_in body
@@ -159,6 +175,7 @@ command_in Fail body = fail_in body
 command_in NotForUs body = not_for_us_in body
 command_in Rebuild body = rebuild_in body
 command_in BuildPriority body = build_priority_in body
+command_in Forget body = forget_in body
 command_in Report body = report_in body
 
 -- the value that bytes write in JSON (RFC 8259), with at most 127 levels

@@ -4,9 +4,10 @@ use Rattle.std.specs.Prelude.{ℕ, List, [], ◌∷◌, ◌++◌, Bool, true, �
 use Rattle.serde_json.specs.Data.{Data, Members, member, no_members, null, object, put, array, boolean, number, string}
 use Rattle.wb_api.specs.Commands.{integer_in, number_in, number_or_none_in, text_in}
 use Rattle.wb_api.specs.declared.route.CommandKind.{CommandKind}
-use Rattle.wb_api.specs.declared.route.CommandKind.TheVariants.{AddArch, AddBuilder, Enter, Next, Take, Built, Uploaded}
-use Rattle.wb_api.specs.declared.route.CommandKind.TheVariants.{Waits, PutBack, Attempted, GiveBack, DepWait, Fail}
-use Rattle.wb_api.specs.declared.route.CommandKind.TheVariants.{NotForUs, Rebuild, BuildPriority, Report}
+use Rattle.wb_api.specs.declared.route.CommandKind.TheVariants.{AddArch, AddBuilder, RemoveArch, RemoveBuilder, Enter}
+use Rattle.wb_api.specs.declared.route.CommandKind.TheVariants.{Next, Take, Built, Uploaded, Waits, PutBack, Attempted}
+use Rattle.wb_api.specs.declared.route.CommandKind.TheVariants.{GiveBack, DepWait, Fail, NotForUs, Rebuild}
+use Rattle.wb_api.specs.declared.route.CommandKind.TheVariants.{BuildPriority, Forget, Report}
 
 -- what a key has: a text, a whole number, a whole number that may be null or missing, or an integer
 pub data Shape : Type 0 where
@@ -36,6 +37,8 @@ named = text (codes "arch") ∷ text (codes "source") ∷ text (codes "version")
 abbrev pub keys_of : CommandKind → List Key
 keys_of AddArch = text (codes "name") ∷ text (codes "os") ∷ text (codes "cpu") ∷ []
 keys_of AddBuilder = text (codes "name") ∷ text (codes "arch") ∷ []
+keys_of RemoveArch = text (codes "name") ∷ []
+keys_of RemoveBuilder = text (codes "name") ∷ text (codes "arch") ∷ []
 keys_of Enter = named ++ text (codes "priority") ∷ text (codes "section") ∷ []
 keys_of Next = text (codes "arch") ∷ text (codes "builder") ∷ record { name = codes "after"; shape = NumberOrNull } ∷ []
 keys_of Take = named ++ text (codes "builder") ∷ []
@@ -50,6 +53,7 @@ keys_of Fail = named ++ text (codes "note") ∷ []
 keys_of NotForUs = named ++ text (codes "note") ∷ []
 keys_of Rebuild = named ++ whole (codes "number") ∷ text (codes "message") ∷ []
 keys_of BuildPriority = named ++ record { name = codes "value"; shape = Integer } ∷ []
+keys_of Forget = named
 keys_of Report = text (codes "arch") ∷ text (codes "text") ∷ []
 
 -- whether a body has under a key of this name what it has to have

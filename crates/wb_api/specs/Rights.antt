@@ -20,9 +20,10 @@ use Rattle.wb_api.specs.declared.request.Request.TheVariants as request
 use Rattle.wb_api.specs.declared.route.BodyKind.{BodyKind}
 use Rattle.wb_api.specs.declared.route.BodyKind.TheVariants as body_kind
 use Rattle.wb_api.specs.declared.route.CommandKind.{CommandKind}
-use Rattle.wb_api.specs.declared.route.CommandKind.TheVariants.{AddArch, AddBuilder, Enter, Next, Take, Built, Uploaded}
-use Rattle.wb_api.specs.declared.route.CommandKind.TheVariants.{Waits, PutBack, Attempted, GiveBack, DepWait, Fail}
-use Rattle.wb_api.specs.declared.route.CommandKind.TheVariants.{NotForUs, Rebuild, BuildPriority, Report}
+use Rattle.wb_api.specs.declared.route.CommandKind.TheVariants.{AddArch, AddBuilder, RemoveArch, RemoveBuilder, Enter}
+use Rattle.wb_api.specs.declared.route.CommandKind.TheVariants.{Next, Take, Built, Uploaded, Waits, PutBack, Attempted}
+use Rattle.wb_api.specs.declared.route.CommandKind.TheVariants.{GiveBack, DepWait, Fail, NotForUs, Rebuild}
+use Rattle.wb_api.specs.declared.route.CommandKind.TheVariants.{BuildPriority, Forget, Report}
 
 -- ---- what is shown of a key
 
@@ -45,6 +46,8 @@ shown_in head = shown_by (map name_and_value head.fields)
 abbrev pub kind_of_path : CommandKind → Kind
 kind_of_path AddArch = kind.Operator
 kind_of_path AddBuilder = kind.Operator
+kind_of_path RemoveArch = kind.Operator
+kind_of_path RemoveBuilder = kind.Operator
 kind_of_path Enter = kind.Operator
 kind_of_path Next = kind.Builder
 kind_of_path Take = kind.Builder
@@ -59,6 +62,7 @@ kind_of_path Fail = kind.Porter
 kind_of_path NotForUs = kind.Porter
 kind_of_path Rebuild = kind.Porter
 kind_of_path BuildPriority = kind.Porter
+kind_of_path Forget = kind.Operator
 kind_of_path Report = kind.Porter
 
 -- the kind of what a body gives: a merge is for operators

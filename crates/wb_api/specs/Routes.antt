@@ -15,9 +15,10 @@ use Rattle.percent_encoding.specs.Percent.{percent_decode}
 use Rattle.wb_streams.specs.declared.fault.Fault.{Fault}
 use Rattle.wb_streams.specs.declared.fault.Fault.TheVariants.{BadPath}
 use Rattle.wb_api.specs.declared.route.CommandKind.{CommandKind}
-use Rattle.wb_api.specs.declared.route.CommandKind.TheVariants.{AddArch, AddBuilder, Enter, Next, Take, Built, Uploaded}
-use Rattle.wb_api.specs.declared.route.CommandKind.TheVariants.{Waits, PutBack, Attempted, GiveBack, DepWait, Fail}
-use Rattle.wb_api.specs.declared.route.CommandKind.TheVariants.{NotForUs, Rebuild, BuildPriority, Report}
+use Rattle.wb_api.specs.declared.route.CommandKind.TheVariants.{AddArch, AddBuilder, RemoveArch, RemoveBuilder, Enter}
+use Rattle.wb_api.specs.declared.route.CommandKind.TheVariants.{Next, Take, Built, Uploaded, Waits, PutBack, Attempted}
+use Rattle.wb_api.specs.declared.route.CommandKind.TheVariants.{GiveBack, DepWait, Fail, NotForUs, Rebuild}
+use Rattle.wb_api.specs.declared.route.CommandKind.TheVariants.{BuildPriority, Forget, Report}
 use Rattle.wb_api.specs.declared.route.QueryKind.{QueryKind}
 use Rattle.wb_api.specs.declared.route.QueryKind.TheVariants as query_kind
 use Rattle.wb_api.specs.declared.route.Route.{Route}
@@ -56,6 +57,7 @@ paths = command_path (codes "/v1/add-arch") AddArch
     ∷ query_path (codes "/v1/depends/") 2 query_kind.Depends
     ∷ command_path (codes "/v1/enter") Enter
     ∷ command_path (codes "/v1/fail") Fail
+    ∷ command_path (codes "/v1/forget") Forget
     ∷ command_path (codes "/v1/give-back") GiveBack
     ∷ query_path (codes "/v1/item/") 2 query_kind.Item
     ∷ merge_path (codes "/v1/merge")
@@ -66,6 +68,8 @@ paths = command_path (codes "/v1/add-arch") AddArch
     ∷ command_path (codes "/v1/put-back") PutBack
     ∷ query_path (codes "/v1/queue/") 1 query_kind.Queue
     ∷ command_path (codes "/v1/rebuild") Rebuild
+    ∷ command_path (codes "/v1/remove-arch") RemoveArch
+    ∷ command_path (codes "/v1/remove-builder") RemoveBuilder
     ∷ command_path (codes "/v1/report") Report
     ∷ query_path (codes "/v1/state/") 2 query_kind.ByState
     ∷ query_path (codes "/v1/summary/") 1 query_kind.Summary
@@ -147,6 +151,8 @@ abbrev pub table : List (List ℕ × Route)
 table =
     (codes "/v1/add-arch", route.Command AddArch)
     ∷ (codes "/v1/add-builder", route.Command AddBuilder)
+    ∷ (codes "/v1/remove-arch", route.Command RemoveArch)
+    ∷ (codes "/v1/remove-builder", route.Command RemoveBuilder)
     ∷ (codes "/v1/enter", route.Command Enter)
     ∷ (codes "/v1/next", route.Command Next)
     ∷ (codes "/v1/take", route.Command Take)
@@ -161,6 +167,7 @@ table =
     ∷ (codes "/v1/not-for-us", route.Command NotForUs)
     ∷ (codes "/v1/rebuild", route.Command Rebuild)
     ∷ (codes "/v1/build-priority", route.Command BuildPriority)
+    ∷ (codes "/v1/forget", route.Command Forget)
     ∷ (codes "/v1/report", route.Command Report)
     ∷ (codes "/v1/merge", route.Merge)
     ∷ (codes "/v1/queue/{arch}", route.Query query_kind.Queue)

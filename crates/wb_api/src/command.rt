@@ -5,9 +5,12 @@ ghost use Rattle.std.specs.Prelude.{◌≡◌, codes, Err, IfOk, IfSome, IsSome,
 ghost use Rattle.serde_json.specs.View.{view};
 ghost use Rattle.wb_api.specs.Commands.{add_arch_in, add_builder_in, attempted_in};
 ghost use Rattle.wb_api.specs.Commands.{build_priority_in, command_in, command_of, dep_wait_in};
-ghost use Rattle.wb_api.specs.Commands.{enter_in, fail_in};
-ghost use Rattle.wb_api.specs.Commands.{give_back_in, integer_in, json_of, next_in, not_for_us_in, number_in, or_bad_body};
-ghost use Rattle.wb_api.specs.Commands.{number_or_none_in, rebuild_in, report_in, named_source_in, take_in, text_in, waits_in};
+ghost use Rattle.wb_api.specs.Commands.{enter_in, fail_in, forget_in};
+ghost use Rattle.wb_api.specs.Commands.{give_back_in, integer_in, json_of, next_in, not_for_us_in};
+ghost use Rattle.wb_api.specs.Commands.{number_in, or_bad_body};
+ghost use Rattle.wb_api.specs.Commands.{number_or_none_in, rebuild_in, remove_arch_in};
+ghost use Rattle.wb_api.specs.Commands.{remove_builder_in};
+ghost use Rattle.wb_api.specs.Commands.{report_in, named_source_in, take_in, text_in, waits_in};
 ghost use Rattle.wb_api.specs.Commands.{IsText, named_source_of};
 ghost use Rattle.wb_api.specs.Outcomes.{GivesOr};
 ghost use Rattle.wb_api.specs.declared.failure.RequestError.TheVariants.{Memory};
@@ -119,6 +122,36 @@ fn add_builder_in(alloc: Global, body: &Value) -> Result<Option<Command>, AllocE
         return Ok(None);
     };
     Ok(Some(Command::AddBuilder(command::AddBuilder {
+        name: Text::copied(alloc, name)?,
+        arch: Text::copied(alloc, arch)?,
+    })))
+}
+
+#[tactic(auto, unfolding(crate::specs::Commands::remove_arch_in))]
+fn remove_arch_in(alloc: Global, body: &Value) -> Result<Option<Command>, AllocError>
+    ensures value { IfOk result (λ command. command ≡ remove_arch_in (view body.now)) }
+    ensures memory { OnErr result (IsSome (remove_arch_in (view body.now))) }
+{
+    let Some(name) = text_in("name", body) else {
+        return Ok(None);
+    };
+    Ok(Some(Command::RemoveArch(command::RemoveArch {
+        name: Text::copied(alloc, name)?,
+    })))
+}
+
+#[tactic(auto, unfolding(crate::specs::Commands::remove_builder_in))]
+fn remove_builder_in(alloc: Global, body: &Value) -> Result<Option<Command>, AllocError>
+    ensures value { IfOk result (λ command. command ≡ remove_builder_in (view body.now)) }
+    ensures memory { OnErr result (IsSome (remove_builder_in (view body.now))) }
+{
+    let Some(name) = text_in("name", body) else {
+        return Ok(None);
+    };
+    let Some(arch) = text_in("arch", body) else {
+        return Ok(None);
+    };
+    Ok(Some(Command::RemoveBuilder(command::RemoveBuilder {
         name: Text::copied(alloc, name)?,
         arch: Text::copied(alloc, arch)?,
     })))
@@ -342,6 +375,21 @@ fn build_priority_in(alloc: Global, body: &Value) -> Result<Option<Command>, All
     })))
 }
 
+#[tactic(auto, unfolding(crate::specs::Commands::forget_in))]
+fn forget_in(alloc: Global, body: &Value) -> Result<Option<Command>, AllocError>
+    ensures value { IfOk result (λ command. command ≡ forget_in (view body.now)) }
+    ensures memory { OnErr result (IsSome (forget_in (view body.now))) }
+{
+    let Some(subject) = named_source_in(body) else {
+        return Ok(None);
+    };
+    Ok(Some(Command::Forget(command::Forget {
+        arch: Text::copied(alloc, subject.arch)?,
+        source: Text::copied(alloc, subject.source)?,
+        version: Text::copied(alloc, subject.version)?,
+    })))
+}
+
 #[tactic(auto, unfolding(crate::specs::Commands::report_in))]
 fn report_in(alloc: Global, body: &Value) -> Result<Option<Command>, AllocError>
     ensures value { IfOk result (λ command. command ≡ report_in (view body.now)) }
@@ -368,6 +416,8 @@ fn command_in(alloc: Global, kind: CommandKind, body: &Value) -> Result<Option<C
     match kind {
         CommandKind::AddArch => add_arch_in(alloc, body),
         CommandKind::AddBuilder => add_builder_in(alloc, body),
+        CommandKind::RemoveArch => remove_arch_in(alloc, body),
+        CommandKind::RemoveBuilder => remove_builder_in(alloc, body),
         CommandKind::Enter => enter_in(alloc, body),
         CommandKind::Next => next_in(alloc, body),
         CommandKind::Take => take_in(alloc, body),
@@ -382,6 +432,7 @@ fn command_in(alloc: Global, kind: CommandKind, body: &Value) -> Result<Option<C
         CommandKind::NotForUs => not_for_us_in(alloc, body),
         CommandKind::Rebuild => rebuild_in(alloc, body),
         CommandKind::BuildPriority => build_priority_in(alloc, body),
+        CommandKind::Forget => forget_in(alloc, body),
         CommandKind::Report => report_in(alloc, body),
     }
 }

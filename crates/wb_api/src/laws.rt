@@ -1,16 +1,18 @@
 //! Laws of the definitions, each on a function with nothing to run.
 ghost use Rattle.std.specs.Prelude.{ℕ, ◌<◌, List, [], ◌∷◌, get_or, ◌≡◌, ◌++◌, pos, neg_ℤ};
-ghost use Rattle.std.specs.Prelude.{codes, false, IfSome, is_some, map, Option, replicate, true, None, Some, Ok, Err};
+ghost use Rattle.std.specs.Prelude.{codes, false, IfSome, is_some, map, Option, replicate, true};
+ghost use Rattle.std.specs.Prelude.{None, Some, Ok, Err};
 ghost use Rattle.deb_text.specs.Lines.{IsOneLine};
 ghost use Rattle.wb_states.specs.declared.refusal.Refusal.{Refusal as AnyRefusal};
 ghost use Rattle.wb_states.specs.declared.reply.Reply.{Reply as AnyReply};
 ghost use Rattle.wb_states.specs.declared.query.Answer.{Answer};
 ghost use Rattle.wb_api.specs.Queries.{query_text};
-ghost use Rattle.wb_api.specs.Encoding.{reply_text, refusal_text, memory_text, line_fault_text, file_fault_text};
+ghost use Rattle.wb_api.specs.Encoding.{reply_text, refusal_text, memory_text, line_fault_text};
+ghost use Rattle.wb_api.specs.Encoding.{file_fault_text};
 ghost use Rattle.httparse.specs.Grammar.{RequestHead};
 ghost use Rattle.httparse.specs.Spans.{name_and_value};
 ghost use Rattle.wb_states.specs.Forms.{AddArch, AddBuilder, Attempted, BuildPriority, Enter};
-ghost use Rattle.wb_states.specs.Forms.{Report};
+ghost use Rattle.wb_states.specs.Forms.{Forget, RemoveArch, RemoveBuilder, Report};
 ghost use Rattle.serde_json.specs.Data.{Data};
 ghost use Rattle.wb_api.specs.Commands.{command_in, value_in};
 ghost use Rattle.wb_api.specs.Keys.{has_keys, keys_of};
@@ -18,11 +20,13 @@ ghost use Rattle.wb_api.specs.declared.route.CommandKind.{CommandKind as AnyKind
 ghost use Rattle.wb_api.specs.Merges.{merge, merge_body, part};
 ghost use Rattle.wb_keys.specs.declared.access.Access.{Access as AnyAccess};
 ghost use Rattle.wb_keys.specs.declared.access.Shown.{Shown as AnyShown};
-ghost use Rattle.wb_api.specs.Requests.{Answers, asked_with, beside_lists, field, got, got_with, head_of, IsHead};
+ghost use Rattle.wb_api.specs.Requests.{Answers, asked_with, beside_lists, field, got, got_with};
+ghost use Rattle.wb_api.specs.Requests.{head_of, IsHead};
 ghost use Rattle.wb_api.specs.Requests.{MeansWith, posted, posted_beside_lists, posted_with};
 ghost use Rattle.wb_api.specs.Requests.{TakesMemory, wanted_of_with};
 ghost use Rattle.wb_streams.specs.Fields.{is_from_browser};
-ghost use Rattle.wb_streams.specs.declared.fault.Fault.TheVariants.{BadBody, BadHead, BadPath, BodyCut, FromBrowser, NoRoute};
+ghost use Rattle.wb_streams.specs.declared.fault.Fault.TheVariants.{BadBody, BadHead, BadPath};
+ghost use Rattle.wb_streams.specs.declared.fault.Fault.TheVariants.{BodyCut, FromBrowser, NoRoute};
 ghost use Rattle.wb_streams.specs.declared.fault.Fault.TheVariants.{WrongMethod};
 ghost use Rattle.wb_streams.specs.declared.fault.Fault.{Fault as AnyFault};
 ghost use Rattle.wb_api.specs.declared.request.Received.{Received as AnyReceived};
@@ -124,8 +128,9 @@ pub fn gets_are_queries()
     ensures post_of_query { posted (codes "/v1/queue/amd64") (codes "{}") ≡ Err WrongMethod }
 {}
 
-/// What adds an architecture, a builder and a source package, the report of a failed build, a build
-/// priority and the report of a whole architecture are commands, each with its own path and keys.
+/// What adds an architecture, a builder and a source package, what takes one of them away, the
+/// report of a failed build, a build priority and the report of a whole architecture are commands,
+/// each with its own path and keys.
 pub fn posts_are_commands()
     // an architecture with the words of its system and its processor
     ensures add_arch { posted (codes "/v1/add-arch")
@@ -139,6 +144,17 @@ pub fn posts_are_commands()
         ≡ Ok (Command (AddBuilder (codes "b1") (codes "amd64"))) }
     ensures no_name { posted (codes "/v1/add-builder")
         (codes "{\"builder\":\"b1\",\"arch\":\"amd64\"}") ≡ Err BadBody }
+    // the name of an architecture
+    ensures remove_arch { posted (codes "/v1/remove-arch") (codes "{\"name\":\"armhf\"}")
+        ≡ Ok (Command (RemoveArch (codes "armhf"))) }
+    ensures no_name_of_arch { posted (codes "/v1/remove-arch") (codes "{\"arch\":\"armhf\"}")
+        ≡ Err BadBody }
+    // a builder and an architecture for which it was added
+    ensures remove_builder { posted (codes "/v1/remove-builder")
+        (codes "{\"name\":\"b1\",\"arch\":\"amd64\"}")
+        ≡ Ok (Command (RemoveBuilder (codes "b1") (codes "amd64"))) }
+    ensures no_arch { posted (codes "/v1/remove-builder") (codes "{\"name\":\"b1\"}")
+        ≡ Err BadBody }
     // a source package on an architecture, its version, its priority and its section
     ensures enter { posted (codes "/v1/enter")
         (codes "{\"arch\":\"amd64\",\"source\":\"hello\",\"version\":\"1.0-1\","
@@ -160,6 +176,12 @@ pub fn posts_are_commands()
         ≡ Ok (Command (BuildPriority (codes "amd64") (codes "hello") (codes "1.0-1") (neg_ℤ (pos 5)))) }
     ensures no_value { posted (codes "/v1/build-priority")
         (codes "{\"arch\":\"amd64\",\"source\":\"hello\",\"version\":\"1.0-1\"}") ≡ Err BadBody }
+    // a source package on an architecture, and its version
+    ensures forget { posted (codes "/v1/forget")
+        (codes "{\"arch\":\"amd64\",\"source\":\"hello\",\"version\":\"1.0-1\"}")
+        ≡ Ok (Command (Forget (codes "amd64") (codes "hello") (codes "1.0-1"))) }
+    ensures no_version { posted (codes "/v1/forget")
+        (codes "{\"arch\":\"amd64\",\"source\":\"hello\"}") ≡ Err BadBody }
     // an architecture, and the lines of a report, of which there may be none
     ensures report { posted (codes "/v1/report")
         (codes "{\"arch\":\"amd64\",\"text\":\"hello 1.0-1 installable\\n\"}")

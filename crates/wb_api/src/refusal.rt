@@ -41,6 +41,7 @@ fn constant_text(refusal: &Refusal) -> Option<&'static str>
         Refusal::Closed => Some(r#"{"code":19,"refused":"Closed"}"#),
         Refusal::Memory => Some(MEMORY),
         Refusal::RepeatedArch => Some(r#"{"code":22,"refused":"RepeatedArch"}"#),
+        Refusal::StillHeld => Some(r#"{"code":23,"refused":"StillHeld"}"#),
         Refusal::OtherVersion { .. }
         | Refusal::WrongState { .. }
         | Refusal::AfterAhead { .. }

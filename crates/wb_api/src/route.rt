@@ -1,7 +1,8 @@
 //! The targets of requests (RFC 9112, section 3.2), and the parts of their paths (RFC 3986, section
 //! 3.3).
 ghost use Rattle.std.specs.Prelude.{◌≡◌, true, OnOk, IfErr, map};
-ghost use Rattle.wb_api.specs.Routes.{all_fit, decoded_text, part_at, query_of, route_at, row_of, with_all};
+ghost use Rattle.wb_api.specs.Routes.{all_fit, decoded_text, part_at, query_of, route_at, row_of};
+ghost use Rattle.wb_api.specs.Routes.{with_all};
 ghost use Rattle.matchit.specs.declared.error.InsertError.TheVariants.{OutOfMemory};
 ghost use Rattle.wb_api.specs.Outcomes.{GivesOr};
 ghost use Rattle.wb_api.specs.Rights.{kind_of_body, kind_of_path};
@@ -21,6 +22,8 @@ use wb_streams::Fault;
 pub(crate) enum CommandKind {
     AddArch,
     AddBuilder,
+    RemoveArch,
+    RemoveBuilder,
     Enter,
     Next,
     Take,
@@ -35,6 +38,7 @@ pub(crate) enum CommandKind {
     NotForUs,
     Rebuild,
     BuildPriority,
+    Forget,
     Report,
 }
 
@@ -66,7 +70,12 @@ impl CommandKind {
         ensures value { result ≡ kind_of_path self }
     {
         match self {
-            CommandKind::AddArch | CommandKind::AddBuilder | CommandKind::Enter => Kind::Operator,
+            CommandKind::AddArch
+            | CommandKind::AddBuilder
+            | CommandKind::RemoveArch
+            | CommandKind::RemoveBuilder
+            | CommandKind::Enter
+            | CommandKind::Forget => Kind::Operator,
             CommandKind::Next
             | CommandKind::Take
             | CommandKind::Built
@@ -107,9 +116,14 @@ pub(crate) enum Route {
 }
 
 /// The paths, as `matchit` reads them, and what each is for.
-static TABLE: [(&str, Route); 27] = [
+static TABLE: [(&str, Route); 30] = [
     ("/v1/add-arch", Route::Command(CommandKind::AddArch)),
     ("/v1/add-builder", Route::Command(CommandKind::AddBuilder)),
+    ("/v1/remove-arch", Route::Command(CommandKind::RemoveArch)),
+    (
+        "/v1/remove-builder",
+        Route::Command(CommandKind::RemoveBuilder),
+    ),
     ("/v1/enter", Route::Command(CommandKind::Enter)),
     ("/v1/next", Route::Command(CommandKind::Next)),
     ("/v1/take", Route::Command(CommandKind::Take)),
@@ -127,6 +141,7 @@ static TABLE: [(&str, Route); 27] = [
         "/v1/build-priority",
         Route::Command(CommandKind::BuildPriority),
     ),
+    ("/v1/forget", Route::Command(CommandKind::Forget)),
     ("/v1/report", Route::Command(CommandKind::Report)),
     ("/v1/merge", Route::Merge),
     ("/v1/queue/{arch}", Route::Query(QueryKind::Queue)),

@@ -26,6 +26,7 @@ pub fn status_of(refusal: &Refusal) -> StatusCode
         | Refusal::NotHeld
         | Refusal::AfterAhead { .. }
         | Refusal::AlreadyThere
+        | Refusal::StillHeld
         | Refusal::Spent => StatusCode::CONFLICT,
         Refusal::BadName
         | Refusal::BadVersion { .. }

@@ -1,5 +1,7 @@
 -- Rows that cannot matter to a merge change nothing of it.
-use Rattle.std.proofs.Common.{◌≡◌, ℕ, Bool, true, false, cond, not, ◌||◌, ◌&&◌, List, [], ◌∷◌, ◌++◌, length, filter, map, bytes_eq, Option, Some, None, Result, Ok, Err, refl, sym, ap, subst, ◌∙◌, inl, inr, arith}
+use Rattle.std.proofs.Common.{◌≡◌, ℕ, ◌+◌, Bool, true, false, cond, not, ◌||◌, ◌&&◌, List, [], ◌∷◌, ◌++◌, length}
+use Rattle.std.proofs.Common.{filter, map, bytes_eq, Option, Some, None, Result, Ok, Err, refl, sym, ap, ap₂, subst}
+use Rattle.std.proofs.Common.{◌∙◌, inl, inr, arith}
 use Rattle.std.specs.Prelude.{◌==◌, IfSome}
 use Rattle.std.specs.List.{AllByRecursion, list_any}
 use Rattle.std.specs.Option.{option_map_or}
@@ -10,7 +12,7 @@ use Rattle.deb_relations.specs.declared.arch.ArchWords.{ArchWords}
 use Rattle.deb_relations.specs.declared.fault.RelationFault.{RelationFault}
 use Rattle.deb_relations.specs.declared.relations.Alternative.{Alternative}
 use Rattle.deb_relations.specs.Reading.{reading_of}
-use Rattle.deb_relations.specs.Satisfaction.{Pairs, is_among, names_of, versions_of}
+use Rattle.deb_relations.specs.Satisfaction.{Offer, Pairs, is_among, names_of, versions_of}
 use Rattle.deb_relations.proofs.NamedLemmas.{satisfied-same}
 use Rattle.deb_text.specs.Lists.{IsIn}
 use Rattle.deb_text.proofs.KeyLemmas.{pair_cmp_total, pair_cmp-same, text_cmp_total, text_cmp-same}
@@ -25,15 +27,17 @@ use Rattle.std.specs.Ordering.{is_gt}
 use Rattle.wb_merge.specs.Listing.{ArchiveListing, best_from, better, built_cmp, is_candidate, is_listed}
 use Rattle.wb_merge.specs.Merge.{are_waits_met, is_reading_met, record_after}
 use Rattle.wb_merge.specs.Merged.{Records, change_of, counts_over, is_added, is_changed, is_kept, is_removed, merge_counts, merged, names_of as names_merged, number_where, record_after_at, record_after_named, recorded_names}
-use Rattle.wb_merge.specs.Scratch.{build_of, built_in, is_build_of, listing_of_kept, present, row_of_kept, versions_in}
+use Rattle.wb_merge.specs.Scratch.{build_of, built_in, is_build_of, is_binary_wanted, joined_rows, listing_of_kept}
+use Rattle.wb_merge.specs.Scratch.{row_of_kept, versions_in}
 use Rattle.wb_merge.specs.Steps.{Key}
 use Rattle.wb_merge.proofs.FoundLemmas.{record-given}
 use Rattle.wb_merge.proofs.MergeLemmas.{merged-get}
 use Rattle.wb_merge.proofs.NameLemmas.{bytes_eq-is}
-use Rattle.wb_merge.proofs.ScratchLemmas.{built-kept, listed-kept, listed_in-filter, versions-kept}
-use Rattle.wb_archive.specs.Fills.{binaries_wanted, is_binary_kept, is_repeat, is_same_build, is_source_wanted}
+use Rattle.wb_merge.proofs.ScratchLemmas.{built-kept, filter-weaker, listed-kept, listed_in-filter, versions-kept}
+use Rattle.wb_archive.specs.Fills.{binaries_behind, binaries_wanted, is_repeat, is_same_build, is_source_wanted}
+use Rattle.wb_archive.specs.Fills.{numbered, repeats, rows_wanted}
 use Rattle.wb_archive.specs.Waited.{AreAllWaitedFor, AreWaitedFor}
-use Rattle.wb_archive.proofs.FillLemmas.{behind-none, binaries_behind}
+use Rattle.wb_archive.proofs.FillLemmas.{behind-none}
 
 -- ---- what is wanted
 
@@ -71,7 +75,9 @@ unfolding are_waits_met
 waits-same one other waited same waits covered = at (reading_of waits) refl where
   at : (reading : Result (List (List Alternative)) RelationFault) → reading_of waits ≡ reading → is_reading_met one reading ≡ is_reading_met other reading
   at (Err fault) e = refl
-  at (Ok groups) e = satisfied-same one other groups (each-among {P = λ name. (version : List ℕ) → (IsIn version (versions_of one name) → IsIn version (versions_of other name)) × (IsIn version (versions_of other name) → IsIn version (versions_of one name))}
+  at (Ok groups) e = satisfied-same one other groups (each-among
+      {P = λ name. (version : Offer) → (IsIn version (versions_of one name) → IsIn version (versions_of other name)) ×
+      (IsIn version (versions_of other name) → IsIn version (versions_of one name))}
       (names_of groups) (λ name among version.
       let is = same name (covered groups name e among) in
       (subst (λ l. IsIn version l) is, subst (λ l. IsIn version l) (sym is))))
@@ -167,114 +173,157 @@ repeat-covered waited name best (Some last) row covered repeats build =
     let is : is_build_of name last ≡ true = (λ i. bytes_eq name (source i) && owned i) ∙ ap (λ b. b && true) (and-left (bytes_eq name row.source) row.own build) in
     ap (λ (b : Built). Some (better built_cmp best b)) (λ i. record { version = sym version i; number = sym number i }) ∙ covered is
 
-not_kept-repeats : (own is_waited repeats : Bool) → ((own || is_waited) && not repeats) ≡ false → own ≡ true → repeats ≡ true
-not_kept-repeats own is_waited true e owned = refl
-not_kept-repeats true is_waited false e owned = absurd cc
-not_kept-repeats false is_waited false e owned = absurd cc
-
 -- the latest build of a source package is the same without them
-repeats-built : (waited : List ℕ → Bool) (name : List ℕ) (rows : List (Option BinaryRow)) (best : Option Built) (last : Option BinaryRow) → IsCovered name best last
+repeats-built : (waited : List ℕ → Bool) (name : List ℕ) (rows : List BinaryRow) (best : Option Built)
+    (last : Option BinaryRow) → IsCovered name best last
     → best_from built_cmp best (map build_of (filter (is_build_of name) (binaries_behind waited last rows)))
-    ≡ best_from built_cmp best (map build_of (filter (is_build_of name) (present rows)))
+    ≡ best_from built_cmp best (map build_of (filter (is_build_of name) rows))
 repeats-built waited name [] best last covered = refl
-repeats-built waited name (None ∷ rows) best last covered = repeats-built waited name rows best last covered
-repeats-built waited name (Some row ∷ rows) best last covered = go (repeats-built waited name rows) (is_binary_kept waited last row) (is_build_of name row) refl refl where
-  of_kept : Option BinaryRow → List BinaryRow
-  of_kept row = filter (is_build_of name) (binaries_behind waited row rows)
+repeats-built waited name (row ∷ rows) best last covered = go (repeats-built waited name rows) (repeats waited last row)
+    (is_build_of name row) refl refl where
+      of_kept : Option BinaryRow → List BinaryRow
+      of_kept row = filter (is_build_of name) (binaries_behind waited row rows)
 
-  of_all : List BinaryRow
-  of_all = filter (is_build_of name) (present rows)
+      of_all : List BinaryRow
+      of_all = filter (is_build_of name) rows
 
-  go : ((best : Option Built) (last : Option BinaryRow) → IsCovered name best last
-      → best_from built_cmp best (map build_of (of_kept last)) ≡ best_from built_cmp best (map build_of of_all))
-      → (k b : Bool) → is_binary_kept waited last row ≡ k → is_build_of name row ≡ b
-      → best_from built_cmp best (map build_of (filter (is_build_of name) (cond k (row ∷ []) [] ++ binaries_behind waited (cond k (Some row) last) rows)))
-      ≡ best_from built_cmp best (map build_of (cond (is_build_of name row) (row ∷ of_all) of_all))
-  go again true true k build =
-      ap (λ t. best_from built_cmp best (map build_of (cond t (row ∷ of_kept (Some row)) (of_kept (Some row))))) build
-      ∙ again (Some (better built_cmp best (build_of row))) (Some row) (λ _. ap (λ (b : Built). Some b) (better-again best (build_of row)))
-      ∙ ap (λ t. best_from built_cmp best (map build_of (cond t (row ∷ of_all) of_all))) (sym build)
-  go again true false k build =
-      ap (λ t. best_from built_cmp best (map build_of (cond t (row ∷ of_kept (Some row)) (of_kept (Some row))))) build
-      ∙ again best (Some row) (λ is. absurd (apart (sym build ∙ is)))
-      ∙ ap (λ t. best_from built_cmp best (map build_of (cond t (row ∷ of_all) of_all))) (sym build)
-  go again false true k build =
-      again best last covered
-      ∙ ap (λ (o : Option Built). best_from built_cmp o (map build_of of_all))
-      (sym (repeat-covered waited name best last row covered (not_kept-repeats row.own (waited row.name) _ k (and-right (bytes_eq name row.source) row.own build)) build))
-      ∙ ap (λ t. best_from built_cmp best (map build_of (cond t (row ∷ of_all) of_all))) (sym build)
-  go again false false k build =
-      again best last covered
-      ∙ ap (λ t. best_from built_cmp best (map build_of (cond t (row ∷ of_all) of_all))) (sym build)
+      go : ((best : Option Built) (last : Option BinaryRow) → IsCovered name best last
+          → best_from built_cmp best (map build_of (of_kept last)) ≡ best_from built_cmp best (map build_of of_all))
+          → (r b : Bool) → repeats waited last row ≡ r → is_build_of name row ≡ b
+          → best_from built_cmp best (map build_of (filter (is_build_of name)
+          (cond r [] (row ∷ []) ++ binaries_behind waited (cond r last (Some row)) rows)))
+          ≡ best_from built_cmp best (map build_of (cond (is_build_of name row) (row ∷ of_all) of_all))
+      go again false true r build =
+          ap (λ t. best_from built_cmp best (map build_of (cond t (row ∷ of_kept (Some row)) (of_kept (Some row))))) build
+          ∙ again (Some (better built_cmp best (build_of row))) (Some row) (λ _. ap (λ (b : Built). Some b) (better-again best (build_of row)))
+          ∙ ap (λ t. best_from built_cmp best (map build_of (cond t (row ∷ of_all) of_all))) (sym build)
+      go again false false r build =
+          ap (λ t. best_from built_cmp best (map build_of (cond t (row ∷ of_kept (Some row)) (of_kept (Some row))))) build
+          ∙ again best (Some row) (λ is. absurd (apart (sym build ∙ is)))
+          ∙ ap (λ t. best_from built_cmp best (map build_of (cond t (row ∷ of_all) of_all))) (sym build)
+      go again true true r build =
+          again best last covered
+          ∙ ap (λ (o : Option Built). best_from built_cmp o (map build_of of_all))
+          (sym (repeat-covered waited name best last row covered r build))
+          ∙ ap (λ t. best_from built_cmp best (map build_of (cond t (row ∷ of_all) of_all))) (sym build)
+      go again true false r build =
+          again best last covered
+          ∙ ap (λ t. best_from built_cmp best (map build_of (cond t (row ∷ of_all) of_all))) (sym build)
 
--- a row whose name is waited for is kept
-waited-kept : (waited : List ℕ → Bool) (last : Option BinaryRow) (row : BinaryRow) → waited row.name ≡ true → is_binary_kept waited last row ≡ true
-waited-kept waited None row e = ap (λ b. (row.own || b) && true) e ∙ at row.own where
-  at : (own : Bool) → ((own || true) && true) ≡ true
+-- a row whose name is waited for does not only repeat another
+waited-new : (waited : List ℕ → Bool) (last : Option BinaryRow) (row : BinaryRow) → waited row.name ≡ true
+    → repeats waited last row ≡ false
+waited-new waited None row e = refl
+waited-new waited (Some last) row e = ap (λ b. is_same_build last row && not b) e ∙ at (is_same_build last row) where
+  at : (same : Bool) → (same && not true) ≡ false
   at true = refl
   at false = refl
-waited-kept waited (Some last) row e = ap (λ b. (row.own || b) && not (is_same_build last row && not b)) e ∙ at row.own (is_same_build last row) where
-  at : (own same : Bool) → ((own || true) && not (same && false)) ≡ true
-  at true true = refl
-  at true false = refl
-  at false true = refl
-  at false false = refl
 
 -- those of a name that is waited for are the same
-repeats-named : (waited : List ℕ → Bool) (name : List ℕ) → waited name ≡ true → (rows : List (Option BinaryRow)) (last : Option BinaryRow)
-    → filter (λ row. bytes_eq name row.name) (binaries_behind waited last rows) ≡ filter (λ row. bytes_eq name row.name) (present rows)
+repeats-named : (waited : List ℕ → Bool) (name : List ℕ) → waited name ≡ true
+    → (rows : List BinaryRow) (last : Option BinaryRow)
+    → filter (λ row. bytes_eq name row.name) (binaries_behind waited last rows) ≡ filter (λ row. bytes_eq name row.name)
+    rows
 repeats-named waited name e [] last = refl
-repeats-named waited name e (None ∷ rows) last = repeats-named waited name e rows last
-repeats-named waited name e (Some row ∷ rows) last = go (repeats-named waited name e rows) (is_binary_kept waited last row) (bytes_eq name row.name) refl refl where
-  of_all : List BinaryRow
-  of_all = filter (λ row. bytes_eq name row.name) (present rows)
+repeats-named waited name e (row ∷ rows) last = go (repeats-named waited name e rows) (repeats waited last row)
+    (bytes_eq name row.name) refl refl where
+      of_all : List BinaryRow
+      of_all = filter (λ row. bytes_eq name row.name) rows
 
-  go : ((last : Option BinaryRow) → filter (λ row. bytes_eq name row.name) (binaries_behind waited last rows) ≡ of_all)
-      → (k b : Bool) → is_binary_kept waited last row ≡ k → bytes_eq name row.name ≡ b
-      → filter (λ row. bytes_eq name row.name) (cond k (row ∷ []) [] ++ binaries_behind waited (cond k (Some row) last) rows)
-      ≡ cond (bytes_eq name row.name) (row ∷ of_all) of_all
-  go again true b k is = ap (λ (l : List BinaryRow). cond (bytes_eq name row.name) (row ∷ l) l) (again (Some row))
-  go again false true k is = absurd (apart (sym k ∙ waited-kept waited last row (ap waited (sym (bytes_eq-is name row.name is)) ∙ e)))
-  go again false false k is = again last ∙ ap (λ t. cond t (row ∷ of_all) of_all) (sym is)
+      go : ((last : Option BinaryRow) → filter (λ row. bytes_eq name row.name) (binaries_behind waited last rows) ≡ of_all)
+          → (r b : Bool) → repeats waited last row ≡ r → bytes_eq name row.name ≡ b
+          → filter (λ row. bytes_eq name row.name) (cond r [] (row ∷ []) ++ binaries_behind waited (cond r last (Some row))
+          rows)
+          ≡ cond (bytes_eq name row.name) (row ∷ of_all) of_all
+      go again false b r is = ap (λ (l : List BinaryRow). cond (bytes_eq name row.name) (row ∷ l) l) (again (Some row))
+      go again true true r is = absurd (apart (sym (waited-new waited last row
+          (ap waited (sym (bytes_eq-is name row.name is)) ∙ e)) ∙ r))
+      go again true false r is = again last ∙ ap (λ t. cond t (row ∷ of_all) of_all) (sym is)
+
+-- ---- rows with other numbers, and rows that are not wanted
+
+-- the numbers of rows play no part
+numbered-same : {Y : Type 0} (test : BinaryRow → Bool) (f : BinaryRow → Y)
+    → ((row : BinaryRow) (n : ℕ) → test (record row { seq = n }) ≡ test row)
+    → ((row : BinaryRow) (n : ℕ) → f (record row { seq = n }) ≡ f row)
+    → (n : ℕ) (rows : List BinaryRow) → map f (filter test (numbered n rows)) ≡ map f (filter test rows)
+numbered-same test f same_test same_f n [] = refl
+numbered-same {Y} test f same_test same_f n (row ∷ rows) =
+    ap (λ b. map f (cond b (record row { seq = n + 1 } ∷ later) later)) (same_test row (n + 1))
+    ∙ go (numbered-same test f same_test same_f (n + 1) rows) (test row)
+  where
+    later : List BinaryRow
+    later = filter test (numbered (n + 1) rows)
+
+    go : map f later ≡ map f (filter test rows) → (b : Bool)
+        → map f (cond b (record row { seq = n + 1 } ∷ later) later) ≡ map f
+        (cond b (row ∷ filter test rows) (filter test rows))
+    go again true = ap₂ (λ (y : Y) (l : List Y). y ∷ l) (same_f row (n + 1)) again
+    go again false = again
+
+build-wanted : (waited : List ℕ → Bool) (name : List ℕ) (row : BinaryRow) → is_build_of name row ≡ true
+    → is_binary_wanted waited row ≡ true
+build-wanted waited name row build = ap (λ b. b || waited row.name) (and-right (bytes_eq name row.source) row.own build)
+
+named-wanted : (waited : List ℕ → Bool) (name : List ℕ) → waited name ≡ true → (row : BinaryRow)
+    → bytes_eq name row.name ≡ true
+    → is_binary_wanted waited row ≡ true
+named-wanted waited name e row is = or-right row.own (waited row.name)
+    (ap waited (sym (bytes_eq-is name row.name is)) ∙ e)
 
 -- ---- the listing of the rows that can matter
 
-module _ (arch : ArchWords) (archs : List ArchWords) (there : IsIn arch archs) (waited : List ℕ → Bool) (sources : List SourceRow) (rows : List (Option BinaryRow)) where
+module _ (arch : ArchWords) (archs : List ArchWords) (there : IsIn arch archs) (waited : List ℕ → Bool)
+    (sources : List SourceRow) (rows : List (List BinaryRow)) where
   abbrev cut : ArchiveListing
   cut = listing_of_kept arch (filter (is_source_wanted archs) sources) (binaries_wanted waited rows)
 
   abbrev whole : ArchiveListing
-  whole = listing_of_kept arch sources (present rows)
+  whole = listing_of_kept arch sources (joined_rows rows)
 
   cut-listed : cut.listed ≡ whole.listed
   cut-listed = finite.same_map text_cmp_total text_cmp-same _ _ (λ name.
       listed-kept arch (filter (is_source_wanted archs) sources) (binaries_wanted waited rows) name
       ∙ listed_in-filter arch (is_source_wanted archs) sources name (candidate-wanted arch archs there name)
-      ∙ sym (listed-kept arch sources (present rows) name))
+      ∙ sym (listed-kept arch sources (joined_rows rows) name))
 
-  built-same : (name : List ℕ) → built_in (binaries_wanted waited rows) name ≡ built_in (present rows) name
+  built-same : (name : List ℕ) → built_in (binaries_wanted waited rows) name ≡ built_in (joined_rows rows) name
   unfolding built_in
   built-same name =
-      ap (λ (l : List BinaryRow). best_from built_cmp None (map build_of (filter (is_build_of name) l))) (sym (behind-none waited rows))
-      ∙ repeats-built waited name rows None None tt
+      let kept = numbered 0 (rows_wanted waited rows) in
+      ap (λ (l : List BinaryRow). best_from built_cmp None (map build_of (filter (is_build_of name) l)))
+      (sym (behind-none waited kept))
+      ∙ repeats-built waited name kept None None tt
+      ∙ ap (best_from built_cmp None) (numbered-same (is_build_of name) build_of (λ _ _. refl) (λ _ _. refl) 0
+      (rows_wanted waited rows))
+      ∙ ap (λ (l : List BinaryRow). best_from built_cmp None (map build_of l))
+      (filter-weaker (is_build_of name) (is_binary_wanted waited) (build-wanted waited name) (joined_rows rows))
 
   cut-built : cut.built ≡ whole.built
   cut-built = finite.same_map text_cmp_total text_cmp-same _ _ (λ name.
       built-kept arch (filter (is_source_wanted archs) sources) (binaries_wanted waited rows) name
       ∙ built-same name
-      ∙ sym (built-kept arch sources (present rows) name))
+      ∙ sym (built-kept arch sources (joined_rows rows) name))
 
-  versions-same : (name : List ℕ) → waited name ≡ true → versions_in (binaries_wanted waited rows) name ≡ versions_in (present rows) name
+  versions-same : (name : List ℕ) → waited name ≡ true
+      → versions_in (binaries_wanted waited rows) name ≡ versions_in (joined_rows rows) name
   unfolding versions_in
   versions-same name e =
-      ap (λ (l : List BinaryRow). map (λ (row : BinaryRow). row.version) (filter (λ row. bytes_eq name row.name) l)) (sym (behind-none waited rows))
-      ∙ ap (map (λ (row : BinaryRow). row.version)) (repeats-named waited name e rows None)
+      let kept = numbered 0 (rows_wanted waited rows) in
+      ap (λ (l : List BinaryRow). map (λ (row : BinaryRow). row.version) (filter (λ row. bytes_eq name row.name) l))
+      (sym (behind-none waited kept))
+      ∙ ap (map (λ (row : BinaryRow). row.version)) (repeats-named waited name e kept None)
+      ∙ numbered-same (λ row. bytes_eq name row.name) (λ row. row.version) (λ _ _. refl) (λ _ _. refl) 0
+      (rows_wanted waited rows)
+      ∙ ap (map (λ (row : BinaryRow). row.version))
+      (filter-weaker (λ row. bytes_eq name row.name) (is_binary_wanted waited) (named-wanted waited name e)
+      (joined_rows rows))
 
   cut-versions : (name : List ℕ) → waited name ≡ true → versions_of cut.available name ≡ versions_of whole.available name
   cut-versions name e =
       versions-kept arch (filter (is_source_wanted archs) sources) (binaries_wanted waited rows) name
       ∙ versions-same name e
-      ∙ sym (versions-kept arch sources (present rows) name)
+      ∙ sym (versions-kept arch sources (joined_rows rows) name)
 
   pub cut-alike : (records : Records) → AreAllWaitedFor records arch.name waited → AreAlike records arch.name cut whole
   cut-alike records all = record {

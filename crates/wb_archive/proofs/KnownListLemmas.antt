@@ -15,7 +15,7 @@ use Rattle.wb_states.specs.declared.reply.PartReply.{PartReply}
 use Rattle.wb_states.specs.Machine.{Machine, with_words}
 use Rattle.wb_merge.specs.Listing.{ArchiveListing}
 use Rattle.wb_merge.specs.Merged.{Records}
-use Rattle.wb_merge.specs.Scratch.{binary_row_at, kept_binaries, kept_sources, listing_kept, source_row_at}
+use Rattle.wb_merge.specs.Scratch.{binary_rows_at, kept_binaries, kept_sources, listing_kept, source_row_at}
 use Rattle.wb_merge.proofs.ScratchLemmas.{listing_of-kept}
 use Rattle.wb_step.specs.Parts.{end_with, listing_for, records_with}
 use Rattle.wb_archive.specs.declared.fault.BadList.{BadList}
@@ -56,9 +56,12 @@ given-by-alike One Other text other part given (Some words) None listing alike s
 given-by-alike One Other text other part given (Some words) None listing alike same packages more (inr (bad, (broken, is))) = inr (
   bad,
   (
-    subst (λ (place : ReaderState). IsBrokenOff Other Packages (binary_row_at (with_words given.arch words)) place bad) packages
-        (subst (λ (arch : List ℕ). IsBrokenOff Other Packages (binary_row_at (with_words arch words)) (begun (paragraphs_in (lines_of part.packages))) bad) same
-        (broken-more One Other Packages (binary_row_at (with_words part.arch words)) (begun (paragraphs_in (lines_of part.packages))) bad more broken)),
+    subst (λ (place : ReaderState). IsBrokenOff Other Packages (binary_rows_at (with_words given.arch words)) place bad)
+        packages
+        (subst (λ (arch : List ℕ). IsBrokenOff Other Packages (binary_rows_at (with_words arch words))
+        (begun (paragraphs_in (lines_of part.packages))) bad) same
+        (broken-more One Other Packages (binary_rows_at (with_words part.arch words))
+        (begun (paragraphs_in (lines_of part.packages))) bad more broken)),
     is,
   ),
 )

@@ -22,7 +22,7 @@ use Rattle.wb_states.specs.declared.scratch.SourceRow.{SourceRow}
 use Rattle.wb_states.specs.Machine.{Machine, with_words}
 use Rattle.wb_merge.specs.Listing.{ArchiveListing}
 use Rattle.wb_merge.specs.Merged.{Records}
-use Rattle.wb_merge.specs.Scratch.{binary_row_at, kept_binaries, kept_sources, listing_kept, source_row_at}
+use Rattle.wb_merge.specs.Scratch.{binary_rows_at, kept_binaries, kept_sources, listing_kept, source_row_at}
 use Rattle.wb_merge.proofs.ScratchLemmas.{listing_of-kept}
 use Rattle.wb_step.specs.Parts.{end_with, listing_for, part_listing, part_replies, records_after, records_with}
 use Rattle.wb_archive.specs.declared.fault.BadList.{BadList}
@@ -103,7 +103,13 @@ pub given-more : (One Other : ControlFault → Type 0) (text : List ℕ) (of : P
 given-more One Other text of None bad listing more e = e
 given-more One Other text of (Some words) (Some fault) listing more e = e
 given-more One Other text of (Some words) None listing more (inl e) = inl e
-given-more One Other text of (Some words) None listing more (inr broke) = inr (broke.0, (broken-more One Other Packages (binary_row_at (with_words of.arch words)) _ broke.0 more broke.1.0, broke.1.1))
+given-more One Other text of (Some words) None listing more (inr broke) = inr (
+  broke.0,
+  (
+    broken-more One Other Packages (binary_rows_at (with_words of.arch words)) _ broke.0 more broke.1.0,
+    broke.1.1,
+  ),
+)
 
 -- a part was merged or refused by its own list, which is among these
 pub part-among : {R : Type 0} (MayStand : R → ReaderState → Type 0) (Breaks : R → ControlFault → Type 0) (machine : Machine) (text : List ℕ) (bad : Option BadList)

@@ -1,6 +1,6 @@
 -- What a call of a reader says of what is kept of the paragraphs ahead.
-use Rattle.std.proofs.Common.{◌≡◌, ◌≢◌, ℕ, ◌+◌, true, false, cond, List, [], ◌∷◌, Option, None, Some, Result, Ok, Err, refl, sym, ap, ap₂, subst, ◌∙◌, inl, inr, ◌⊎◌}
-use Rattle.std.specs.Prelude.{IfSome}
+use Rattle.std.proofs.Common.{◌≡◌, ◌≢◌, ℕ, ◌+◌, List, [], ◌∷◌, filter, Bool, Option, None, Some, Result, Ok, Err, refl}
+use Rattle.std.proofs.Common.{sym, ap, ap₂, subst, ◌∙◌, inl, inr, ◌⊎◌}
 use Rattle.std.specs.Result.{result_map_both}
 use Rattle.deb_control.specs.declared.fault.ControlFault.{ControlFault}
 use Rattle.deb_control.specs.declared.fault.ControlFaultKind.{ControlFaultKind}
@@ -17,9 +17,9 @@ use Rattle.wb_states.specs.declared.refusal.ListingFault.{ListingFault}
 use Rattle.wb_states.specs.declared.refusal.ListingFault.TheVariants.{Control}
 use Rattle.wb_states.specs.declared.scratch.SourceRow.{SourceRow}
 use Rattle.wb_states.specs.declared.scratch.BinaryRow.{BinaryRow}
-use Rattle.wb_merge.specs.Listing.{is_installable_on}
-use Rattle.wb_merge.specs.Rows.{BinaryParagraph, binary_row_of, source_fault, onto_rows}
-use Rattle.wb_merge.specs.Scratch.{binary_columns, binary_row_at, kept_behind, kept_of, kept_reading, source_columns, source_row_at}
+use Rattle.wb_merge.specs.Rows.{source_fault, onto_rows}
+use Rattle.wb_merge.specs.Scratch.{binary_rows_at, is_binary_wanted, kept_behind, kept_reading, source_columns}
+use Rattle.wb_merge.specs.Scratch.{source_row_at, wanted_rows_at}
 use Rattle.wb_archive.specs.declared.fault.BadList.{BadList}
 use Rattle.wb_archive.specs.declared.fault.ReadFault.{ReadFault}
 use Rattle.wb_archive.specs.declared.fault.ReadFault.TheVariants.{Memory as NoMemory, Bad}
@@ -61,19 +61,17 @@ source-seq at fields row = go (source_fault fields) where
   go None e = sym (ap (λ (r : SourceRow). r.seq) (only-ok (source_columns at fields) row e))
   go (Some fault) e = absurd cc
 
-kept-seq : (arch : ArchWords) (at : ℕ) (row : BinaryParagraph) → IfSome (kept_of arch at row) (λ kept. kept.seq ≡ at)
-unfolding kept_of
-kept-seq arch at row =
-    elim (is_installable_on arch row) as (λ b. IfSome (cond b (Some (binary_columns arch at row)) None) (λ (kept : BinaryRow). kept.seq ≡ at)) [ true ↦ refl | false ↦ tt ]
-
--- what is kept of a paragraph of Packages has its number
-pub binary-seq : (arch : ArchWords) (at : ℕ) (fields : List FieldText) (row : Option BinaryRow) → binary_row_at arch at fields ≡ Ok row
-    → IfSome row (λ kept. kept.seq ≡ at)
-unfolding binary_row_at
-binary-seq arch at fields row = go (binary_row_of fields) where
-  go : (read : Result BinaryParagraph ListingFault) → result_map_both (kept_of arch at) (BadListing Packages at) read ≡ Ok row → IfSome row (λ kept. kept.seq ≡ at)
-  go (Ok read) e = subst (λ (r : Option BinaryRow). IfSome r (λ kept. kept.seq ≡ at)) (only-ok (kept_of arch at read) row e) (kept-seq arch at read)
-  go (Err fault) e = absurd cc
+-- of what is kept of a paragraph of Packages the rows that can matter
+pub rows-kept : (arch : ArchWords) (wanted : List ℕ → Bool) (at : ℕ) (fields : List FieldText) (rows : List BinaryRow)
+    → wanted_rows_at arch wanted at fields ≡ Ok rows
+    → (kept : List BinaryRow) × ((rows ≡ filter (is_binary_wanted wanted) kept) ×
+    (binary_rows_at arch at fields ≡ Ok kept))
+rows-kept arch wanted at fields rows is = go (binary_rows_at arch at fields) is where
+  go : (read : Result (List BinaryRow) Refusal) → result_map_both (filter (is_binary_wanted wanted))
+      (λ refusal. refusal) read ≡ Ok rows
+      → (kept : List BinaryRow) × ((rows ≡ filter (is_binary_wanted wanted) kept) × (read ≡ Ok kept))
+  go (Ok kept) e = (kept, (sym (only-ok (filter (is_binary_wanted wanted) kept) rows e), refl))
+  go (Err refusal) e = absurd cc
 
 -- ---- a refusal
 

@@ -3,7 +3,7 @@ use Rattle.std.proofs.Common.{◌≡◌, ◌↔◌, ◌⊎◌, ℕ, Bool, true, 
 use Rattle.std.specs.List.{AllByRecursion}
 use Rattle.deb_text.specs.Lists.{IsIn}
 use Rattle.deb_relations.specs.declared.relations.Alternative.{Alternative}
-use Rattle.deb_relations.specs.Satisfaction.{HaveSamePairs, Pairs, names_of, no_pairs, satisfied, versions_of}
+use Rattle.deb_relations.specs.Satisfaction.{HaveSamePairs, Offer, Pairs, names_of, no_pairs, satisfied, versions_of}
 use Rattle.deb_relations.specs.Reading.{reading_of}
 use Rattle.deb_relations.proofs.NamedLemmas.{satisfied-same}
 use Rattle.wb_states.specs.declared.scratch.BinaryRow.{BinaryRow}
@@ -31,24 +31,25 @@ in-either x (y ∷ xs) ys (inl e) = inl (inl e)
 in-either x (y ∷ xs) ys (inr h) = elim (in-either x xs ys h) [ inl a ↦ inl (inr a) | inr b ↦ inr b ]
 
 -- a filter that asks nothing of the items
-all-or-none : (b : Bool) (xs : List (List ℕ)) → map (λ x. x) (filter (λ _. b) xs) ≡ cond b xs []
+all-or-none : (b : Bool) (xs : List Offer) → map (λ x. x) (filter (λ _. b) xs) ≡ cond b xs []
 all-or-none true [] = refl
-all-or-none true (x ∷ xs) = ap (λ (l : List (List ℕ)). x ∷ l) (all-or-none true xs)
+all-or-none true (x ∷ xs) = ap (λ (l : List Offer). x ∷ l) (all-or-none true xs)
 all-or-none false [] = refl
 all-or-none false (x ∷ xs) = all-or-none false xs
 
 -- ---- versions of names
 
-versions-more : (pairs : Pairs) (name other : List ℕ) (versions : List (List ℕ))
+versions-more : (pairs : Pairs) (name other : List ℕ) (versions : List Offer)
     → versions_of (with_versions pairs other versions) name ≡ versions_of pairs name ++ cond (bytes_eq name other) versions []
 versions-more pairs name other versions =
-    more-of (λ (_ : List ℕ). other) (λ (version : List ℕ). version) pairs name versions
-    ∙ ap (λ (l : List (List ℕ)). versions_of pairs name ++ l) (all-or-none (bytes_eq name other) versions)
+    more-of (λ (_ : Offer). other) (λ (version : Offer). version) pairs name versions
+    ∙ ap (λ (l : List Offer). versions_of pairs name ++ l) (all-or-none (bytes_eq name other) versions)
 
 module _ (rows : List BinaryRow) where
-  -- each version of a name in the pairs is one of its packages among the rows
+  -- each version of a name in the pairs is one that the rows have of it
   abbrev IsSound : Pairs → Type 0
-  IsSound pairs = (name version : List ℕ) → IsIn version (versions_of pairs name) → IsIn version (versions_in rows name)
+  IsSound pairs = (name : List ℕ) (version : Offer) → IsIn version (versions_of pairs name)
+      → IsIn version (versions_in rows name)
 
   more-sound : (pairs : Pairs) (other : List ℕ) → IsSound pairs → IsSound (with_versions pairs other (versions_in rows other))
   more-sound pairs other sound name version there =
@@ -66,20 +67,23 @@ module _ (rows : List BinaryRow) where
   all-sound pairs (name ∷ names) sound = all-sound (with_versions pairs name (versions_in rows name)) names (more-sound pairs name sound)
 
   -- what is there stays
-  stays : (pairs : Pairs) (names : List (List ℕ)) (name version : List ℕ) → IsIn version (versions_of pairs name) → IsIn version (versions_of (pairs_from rows pairs names) name)
+  stays : (pairs : Pairs) (names : List (List ℕ)) (name : List ℕ) (version : Offer)
+      → IsIn version (versions_of pairs name) → IsIn version (versions_of (pairs_from rows pairs names) name)
   stays pairs [] name version there = there
   stays pairs (other ∷ names) name version there =
       stays (with_versions pairs other (versions_in rows other)) names name version
       (subst (λ l. IsIn version l) (sym (versions-more pairs name other (versions_in rows other))) (in-left version (versions_of pairs name) _ there))
 
-  here : (pairs : Pairs) (name version : List ℕ) → IsIn version (versions_in rows name) → IsIn version (versions_of (with_versions pairs name (versions_in rows name)) name)
+  here : (pairs : Pairs) (name : List ℕ) (version : Offer) → IsIn version (versions_in rows name)
+      → IsIn version (versions_of (with_versions pairs name (versions_in rows name)) name)
   here pairs name version there =
       let same : cond (bytes_eq name name) (versions_in rows name) [] ≡ versions_in rows name = ap (λ b. cond b (versions_in rows name) []) (nat_list_eq_equiv.refl name) in
       subst (λ l. IsIn version l) (sym (versions-more pairs name name (versions_in rows name)))
       (in-right version (versions_of pairs name) _ (subst (λ l. IsIn version l) (sym same) there))
 
   each-named : (pairs : Pairs) (names : List (List ℕ)) → IsSound pairs
-      → AllByRecursion (λ name. (version : List ℕ) → IsIn version (versions_of (pairs_from rows pairs names) name) ↔ IsIn version (versions_in rows name)) names
+      → AllByRecursion (λ name. (version : Offer) → IsIn version (versions_of (pairs_from rows pairs names) name) ↔ IsIn
+      version (versions_in rows name)) names
   each-named pairs [] sound = tt
   each-named pairs (name ∷ names) sound = (
     λ version. (
@@ -96,14 +100,17 @@ module _ (rows : List BinaryRow) where
   unfolding available_in versions_in
   versions-available name =
       more-of (λ (row : BinaryRow). row.name) (λ row. row.version) no_pairs name rows
-      ∙ ap (λ (l : List (List ℕ)). l ++ map (λ (row : BinaryRow). row.version) (filter (λ row. bytes_eq name row.name) rows)) (none-yet name)
+      ∙ ap (λ (l : List Offer). l ++ map (λ (row : BinaryRow). row.version)
+      (filter (λ row. bytes_eq name row.name) rows)) (none-yet name)
 
   turned : (pairs : Pairs) (names : List (List ℕ))
-      → AllByRecursion (λ name. (version : List ℕ) → IsIn version (versions_of pairs name) ↔ IsIn version (versions_in rows name)) names
+      → AllByRecursion (λ name. (version : Offer) → IsIn version (versions_of pairs name) ↔ IsIn version
+      (versions_in rows name)) names
       → HaveSamePairs pairs (available_in rows) names
   turned pairs [] h = tt
   turned pairs (name ∷ names) h = (
-    subst (λ l. (version : List ℕ) → IsIn version (versions_of pairs name) ↔ IsIn version l) (sym (versions-available name)) h.0,
+    subst (λ l. (version : Offer) → IsIn version (versions_of pairs name) ↔ IsIn version l)
+        (sym (versions-available name)) h.0,
     turned pairs names h.1,
   )
 

@@ -3,7 +3,7 @@ use Rattle.std.specs.Prelude.{◌≡◌, ℕ, ◌++◌, not, List, filter, Optio
 use Rattle.std.specs.List.{fold}
 use Rattle.std.specs.FinMap as finite
 use Rattle.deb_relations.specs.declared.arch.ArchWords.{ArchWords}
-use Rattle.deb_relations.specs.Satisfaction.{Pairs, no_pairs, with_pair}
+use Rattle.deb_relations.specs.Satisfaction.{Offer, Pairs, no_pairs, with_pair}
 use Rattle.wb_states.specs.declared.record.Record.{Record}
 use Rattle.wb_states.specs.declared.scratch.BinaryRow.{BinaryRow}
 use Rattle.wb_merge.specs.Listing.{ArchiveListing}
@@ -40,13 +40,13 @@ pub record AreNamesToDecide (now : Contents) (arch : List ℕ) (names : List (Li
 -- ---- waits
 
 -- what is available, with these versions of a name more
-abbrev pub with_versions : Pairs → List ℕ → List (List ℕ) → Pairs
+abbrev pub with_versions : Pairs → List ℕ → List Offer → Pairs
 with_versions available name versions = fold (λ pairs version. with_pair pairs name version) available versions
 
--- the pairs of some names with the versions of their packages among rows, after those of others
+-- the pairs of some names with the versions that rows have of them, after those of others
 abbrev pub pairs_from : List BinaryRow → Pairs → List (List ℕ) → Pairs
 pairs_from rows = fold (λ pairs name. with_versions pairs name (versions_in rows name))
 
--- the pairs of some names with the versions of their packages among rows
+-- the pairs of some names with the versions that rows have of them
 abbrev pub pairs_named : List BinaryRow → List (List ℕ) → Pairs
 pairs_named rows names = pairs_from rows no_pairs names

@@ -1,5 +1,6 @@
 -- What stands in the tables of a merge once a list was read into them.
-use Rattle.std.specs.Prelude.{Bool, false, not, ◌||◌, ◌&&◌, ◌==◌, if◌then◌else◌, ℕ, bytes_eq, List, [], ◌∷◌, filter, Option, Some, None, Result, Ok, Err}
+use Rattle.std.specs.Prelude.{Bool, false, not, ◌&&◌, ◌==◌, if◌then◌else◌, ℕ, ◌+◌, bytes_eq, List, [], ◌∷◌, ◌++◌}
+use Rattle.std.specs.Prelude.{filter, Option, Some, None, Result, Ok, Err}
 use Rattle.std.specs.List.{dedup, list_any}
 use Rattle.std.specs.Option.{option_map_or}
 use Rattle.deb_relations.specs.declared.arch.ArchWords.{ArchWords}
@@ -7,16 +8,12 @@ use Rattle.wb_states.specs.declared.refusal.Refusal.{Refusal}
 use Rattle.wb_states.specs.declared.scratch.SourceRow.{SourceRow}
 use Rattle.wb_states.specs.declared.scratch.BinaryRow.{BinaryRow}
 use Rattle.wb_merge.specs.Listing.{is_listed}
-use Rattle.wb_merge.specs.Scratch.{present, row_of_kept}
+use Rattle.wb_merge.specs.Scratch.{is_binary_wanted, joined_rows, row_of_kept}
 use Rattle.wb_archive.specs.declared.fault.BadList.{BadList}
 
 -- whether a row can matter to a merge of these architectures: one of them lists its source package
 abbrev pub is_source_wanted : List ArchWords → SourceRow → Bool
 is_source_wanted archs row = list_any (λ arch. is_listed arch (row_of_kept row)) archs
-
--- whether a row can matter to a part: it is the architecture's own, or a record may wait for its name
-abbrev pub is_binary_wanted : (List ℕ → Bool) → BinaryRow → Bool
-is_binary_wanted waited row = row.own || waited row.name
 
 -- of the rows of a Sources list those that can matter
 abbrev pub sources_wanted : List ArchWords → List SourceRow → List SourceRow
@@ -31,25 +28,43 @@ is_same_build one other =
 abbrev pub is_repeat : (List ℕ → Bool) → BinaryRow → BinaryRow → Bool
 is_repeat waited row before = is_same_build before row && not (waited row.name)
 
--- of what is kept of a Packages list those rows that can matter, without those that only repeat the row before them
-abbrev pub binaries_wanted : (List ℕ → Bool) → List (Option BinaryRow) → List BinaryRow
-binaries_wanted waited rows = dedup (is_repeat waited) (filter (is_binary_wanted waited) (present rows))
+-- of what is kept of the paragraphs of a Packages list the rows that can matter, one after another
+abbrev pub rows_wanted : (List ℕ → Bool) → List (List BinaryRow) → List BinaryRow
+rows_wanted waited kept = filter (is_binary_wanted waited) (joined_rows kept)
+
+-- rows in their order, with the numbers after this one
+abbrev pub numbered : ℕ → List BinaryRow → List BinaryRow
+numbered placed [] = []
+numbered placed (row ∷ rows) = record row { seq = placed + 1 } ∷ numbered (placed + 1) rows
+
+-- of what is kept of the paragraphs of a Packages list the rows that can matter, with their numbers, without those that
+-- only repeat the row before them
+abbrev pub binaries_wanted : (List ℕ → Bool) → List (List BinaryRow) → List BinaryRow
+binaries_wanted waited kept = dedup (is_repeat waited) (numbered 0 (rows_wanted waited kept))
 
 -- ---- the same, row by row
 
--- whether a row is kept, after the row that was kept last, if there is one: it can matter, and does not only repeat that one
-abbrev pub is_binary_kept : (List ℕ → Bool) → Option BinaryRow → BinaryRow → Bool
-is_binary_kept waited last row = is_binary_wanted waited row && not (option_map_or (is_repeat waited row) last false)
+-- whether a row only repeats the row that was kept last, if there is one
+abbrev pub repeats : (List ℕ → Bool) → Option BinaryRow → BinaryRow → Bool
+repeats waited last row = option_map_or (is_repeat waited row) last false
 
--- the row, if there is one and it is kept
-abbrev pub binary_kept : (List ℕ → Bool) → Option BinaryRow → Option BinaryRow → List BinaryRow
-binary_kept waited last None = []
-binary_kept waited last (Some row) = if is_binary_kept waited last row then row ∷ [] else []
+-- the row, unless it only repeats the one that was kept last
+abbrev pub binary_kept : (List ℕ → Bool) → Option BinaryRow → BinaryRow → List BinaryRow
+binary_kept waited last row = if repeats waited last row then [] else row ∷ []
 
 -- the row that was kept last, once it was seen whether a row is kept
-abbrev pub last_kept : (List ℕ → Bool) → Option BinaryRow → Option BinaryRow → Option BinaryRow
-last_kept waited last None = last
-last_kept waited last (Some row) = if is_binary_kept waited last row then Some row else last
+abbrev pub last_kept : (List ℕ → Bool) → Option BinaryRow → BinaryRow → Option BinaryRow
+last_kept waited last row = if repeats waited last row then last else Some row
+
+-- those of some rows that are kept, after the row that was kept last
+abbrev pub binaries_behind : (List ℕ → Bool) → Option BinaryRow → List BinaryRow → List BinaryRow
+binaries_behind waited last [] = []
+binaries_behind waited last (row ∷ rows) = binary_kept waited last row ++ binaries_behind waited (last_kept waited last row) rows
+
+-- the row that was kept last, once they were read
+abbrev pub last_behind : (List ℕ → Bool) → Option BinaryRow → List BinaryRow → Option BinaryRow
+last_behind waited last [] = last
+last_behind waited last (row ∷ rows) = last_behind waited (last_kept waited last row) rows
 
 -- ---- a list that was read, or is refused
 

@@ -17,7 +17,7 @@ use Rattle.wb_states.specs.declared.reply.PartReply.{PartReply}
 use Rattle.wb_states.specs.Machine.{Machine, with_words}
 use Rattle.wb_merge.specs.Listing.{ArchiveListing}
 use Rattle.wb_merge.specs.Merged.{Records}
-use Rattle.wb_merge.specs.Scratch.{binary_row_at, kept_sources, source_row_at}
+use Rattle.wb_merge.specs.Scratch.{binary_rows_at, kept_sources, source_row_at}
 use Rattle.wb_step.specs.Parts.{end_with, listing_for, records_with}
 use Rattle.wb_archive.specs.declared.fault.BadList.{BadList}
 use Rattle.wb_archive.specs.declared.merge.PartList.{PartList}
@@ -70,7 +70,8 @@ IsSourcesRead Breaks text (Some bad) = IsRefused Breaks Sources source_row_at (b
 
 -- the list of a part could not be read on: its reader broke at a paragraph before which none has a fault
 abbrev pub IsPartBrokenOff : (ControlFault → Type 0) → Part → OsCpu → BadList → Type 0
-IsPartBrokenOff Breaks of words bad = IsBrokenOff Breaks Packages (binary_row_at (with_words of.arch words)) (begun (paragraphs_in (lines_of of.packages))) bad
+IsPartBrokenOff Breaks of words bad = IsBrokenOff Breaks Packages (binary_rows_at (with_words of.arch words))
+    (begun (paragraphs_in (lines_of of.packages))) bad
 
 -- a part was given this listing, by the words of its architecture, if it was added, and why Sources is refused, if it is:
 -- first UnknownArch, then the fault of Sources, and then what the lists have, or a refusal since the reader of Packages broke

@@ -13,7 +13,7 @@ use Rattle.wb_states.specs.declared.scratch.BinaryRow.{BinaryRow}
 use Rattle.wb_states.specs.declared.scratch.SourceRow.{SourceRow}
 use Rattle.wb_merge.specs.Listing.{ArchiveListing}
 use Rattle.wb_merge.specs.Merged.{Records}
-use Rattle.wb_merge.specs.Scratch.{binary_row_at, listing_kept, present}
+use Rattle.wb_merge.specs.Scratch.{binary_rows_at, joined_rows, listing_kept}
 use Rattle.wb_step.specs.Parts.{end_with, records_with}
 use Rattle.wb_archive.specs.declared.fault.BadList.{BadList}
 use Rattle.wb_archive.specs.Faults.{refusal_of}
@@ -21,7 +21,7 @@ use Rattle.wb_archive.specs.Reads.{IsBrokenOff, packages_at}
 
 -- what is kept of a Packages list of which a reader has the paragraphs ahead
 abbrev pub binaries_at : ArchWords → ReaderState → Result (List BinaryRow) Refusal
-binaries_at arch place = result_map_both present (λ refusal. refusal) (packages_at arch place)
+binaries_at arch place = result_map_both joined_rows (λ refusal. refusal) (packages_at arch place)
 
 -- what a part lists, from these rows of Sources and the paragraphs that the reader of its Packages has ahead, or why it is refused
 abbrev pub listing_from : ArchWords → List SourceRow → ReaderState → Result ArchiveListing Refusal
@@ -31,7 +31,7 @@ listing_from arch sources place = listing_kept arch (Ok sources) (binaries_at ar
 abbrev pub IsListing : (ControlFault → Type 0) → ArchWords → List SourceRow → ReaderState → Result ArchiveListing Refusal → Type 0
 IsListing Breaks arch sources place given =
     (given ≡ listing_from arch sources place)
-    ⊎ ((bad : BadList) × (IsBrokenOff Breaks Packages (binary_row_at arch) place bad × (given ≡ Err (refusal_of bad))))
+    ⊎ ((bad : BadList) × (IsBrokenOff Breaks Packages (binary_rows_at arch) place bad × (given ≡ Err (refusal_of bad))))
 
 -- a part was merged or refused by the listing that its list gave, and the tables have the records after it
 pub record IsPartDone (Gives : Result ArchiveListing Refusal → Type 0) (Holds : Records → Type 0) (records : Records) (arch : List ℕ) (end : PartEnd) : Type 0 where

@@ -12,7 +12,7 @@ use Rattle.wb_states.specs.declared.refusal.ListKind.TheVariants.{Sources, Packa
 use Rattle.wb_states.specs.declared.refusal.ListingFault.TheVariants.{Control}
 use Rattle.wb_states.specs.declared.scratch.SourceRow.{SourceRow}
 use Rattle.wb_states.specs.declared.scratch.BinaryRow.{BinaryRow}
-use Rattle.wb_merge.specs.Scratch.{binary_row_at, kept_behind, source_row_at}
+use Rattle.wb_merge.specs.Scratch.{binary_rows_at, kept_behind, source_row_at}
 use Rattle.wb_archive.specs.declared.fault.BadList.{BadList}
 use Rattle.wb_archive.specs.Faults.{IsBreak, refusal_of}
 
@@ -43,8 +43,8 @@ abbrev pub sources_at : ReaderState → Result (List SourceRow) Refusal
 sources_at place = kept_at Sources source_row_at place
 
 -- what is kept, paragraph by paragraph, of a Packages list of an architecture of which a reader has the paragraphs ahead
-abbrev pub packages_at : ArchWords → ReaderState → Result (List (Option BinaryRow)) Refusal
-packages_at arch place = kept_at Packages (binary_row_at arch) place
+abbrev pub packages_at : ArchWords → ReaderState → Result (List (List BinaryRow)) Refusal
+packages_at arch place = kept_at Packages (binary_rows_at arch) place
 
 -- ---- paragraph by paragraph
 

@@ -1,9 +1,13 @@
 //! What a merge asks of the tables in which it runs.
-ghost use Rattle.std.specs.Prelude.{◌≡◌, ◌≢◌, ◌++◌, ◌∷◌, [], ◌<◌, ◌^◌, Some, None, filter, map as each, bytes_eq, IfOk, IfErr, IfSome, OnOk};
+ghost use Rattle.std.specs.Prelude.{◌≡◌, ◌≢◌, ◌++◌, ◌∷◌, [], ◌<◌, ◌^◌, Some, None, filter};
+ghost use Rattle.std.specs.Prelude.{map as each, bytes_eq, IfOk, IfErr, IfSome, OnOk};
 ghost use Rattle.std.specs.FinMap as finite;
 ghost use Rattle.wb_merge.specs.Merged.{recorded_names};
 ghost use Rattle.wb_merge.specs.Scratch.{versions_in};
-ghost use Rattle.wb_archive.specs.Tables.{Contents, Tables, AreNamesOf, HasFittingTake, HaveWaiting, IsAfterBinaries, IsAfterSources, back_at, with_binaries, with_records, with_savepoint, with_sources, without_savepoint};
+ghost use Rattle.wb_archive.specs.Tables.{Contents, Tables, AreNamesOf, HasFittingTake};
+ghost use Rattle.wb_archive.specs.Tables.{HaveWaiting, IsAfterBinaries, IsAfterSources, back_at};
+ghost use Rattle.wb_archive.specs.Tables.{with_binaries, with_records, with_savepoint};
+ghost use Rattle.wb_archive.specs.Tables.{with_sources, without_savepoint};
 
 use deb_text::Text;
 use deb_version::Version;
@@ -12,9 +16,9 @@ use wb_states::{BinaryRow, KeyedRecord, Record, SourceRow};
 // The functions of a merge say by one record (`Advances`) what they follow and how they fail, since
 // memory may run out between two calls. These calls fail with the tables' own fault, of which out
 // of memory is one, so each says both by itself.
-/// The tables in which a merge runs, within a transaction that its caller began: the state of the office, and what is kept
-/// of the archive's lists. Each clause speaks of what stands in the tables before a call and says what stands in them after it
-/// (this project's own).
+/// The tables in which a merge runs, within a transaction that its caller began: the state of the
+/// office, and what is kept of the archive's lists. Each clause speaks of what stands in the tables
+/// before a call and says what stands in them after it (this project's own).
 pub trait MergeTables {
     /// Why a call fails.
     type Fault: Drop;
@@ -28,11 +32,13 @@ pub trait MergeTables {
     // Calls that succeeded went from the first to the second.
     ghost follows: { Self → Self → Type 0 };
 
-    // Calls that succeeded went from the first on, and then one failed with this fault and left the second.
+    // Calls that succeeded went from the first on, and then one failed with this fault and left the
+    // second.
     ghost fails: { Self → Self → Self.Fault → Type 0 };
 
-    /// The record of the source package `source` on the architecture `arch`, or none if it has no record there. Whatever stands
-    /// in the tables, its take number, if it has one, is at most [`wb_states::COUNT_LIMIT`].
+    /// The record of the source package `source` on the architecture `arch`, or none if it has no
+    /// record there. Whatever stands in the tables, its take number, if it has one, is at most
+    /// [`wb_states::COUNT_LIMIT`].
     fn record(&mut self, arch: &Text, source: &Text) -> Result<Option<Record>, Self::Fault>
         ensures value { (tables : Tables) → is_clean self.new → holds self.old tables
             → IfOk result (λ found. found ≡ finite.get tables.now.machine.records (arch.now, source.now)) }
@@ -73,7 +79,7 @@ pub trait MergeTables {
         ensures follows { OnOk result (follows self.old self.new) }
         ensures fails { IfErr result (fails self.old self.new) };
 
-    /// What is kept of the paragraphs of Packages that were built from a source package, by their numbers.
+    /// The rows that are kept of Packages and were built from a source package, by their numbers.
     fn binaries_of(&mut self, source: &Text) -> Result<Vec<BinaryRow>, Self::Fault>
         ensures value { (tables : Tables) → is_clean self.new → holds self.old tables
             → IfOk result (λ rows. rows.items ≡ filter (λ row. bytes_eq source.now row.source) tables.now.binaries) }
@@ -81,15 +87,17 @@ pub trait MergeTables {
         ensures follows { OnOk result (follows self.old self.new) }
         ensures fails { IfErr result (fails self.old self.new) };
 
-    /// The versions of the packages of a name of which a paragraph of Packages is kept, by the numbers of the paragraphs.
-    fn versions_named(&mut self, name: &Text) -> Result<Vec<Version>, Self::Fault>
+    /// The versions in which a name is available by what is kept of Packages, by the numbers of the
+    /// rows; none where it is provided without one (Debian Policy 7.5).
+    fn versions_named(&mut self, name: &Text) -> Result<Vec<Option<Version>>, Self::Fault>
         ensures value { (tables : Tables) → is_clean self.new → holds self.old tables
             → IfOk result (λ versions. versions.items ≡ versions_in tables.now.binaries name.now) }
         ensures same { (tables : Tables) → is_clean self.new → holds self.old tables → OnOk result (holds self.new tables) }
         ensures follows { OnOk result (follows self.old self.new) }
         ensures fails { IfErr result (fails self.old self.new) };
 
-    /// Keeps a paragraph of Sources, whose number is above those that are kept and below 2^63; all else stays.
+    /// Keeps a paragraph of Sources, whose number is above those that are kept and below 2^63; all
+    /// else stays.
     fn add_source(&mut self, row: &SourceRow) -> Result<(), Self::Fault>
         requires fits { row.now.seq < 2 ^ 63 }
         ensures value { (tables : Tables) → is_clean self.new → holds self.old tables
@@ -98,7 +106,8 @@ pub trait MergeTables {
         ensures follows { OnOk result (follows self.old self.new) }
         ensures fails { IfErr result (fails self.old self.new) };
 
-    /// Keeps a paragraph of Packages, whose number is above those that are kept and below 2^63; all else stays.
+    /// Keeps a row of Packages, whose number is above those that are kept and below 2^63; all else
+    /// stays.
     fn add_binary(&mut self, row: &BinaryRow) -> Result<(), Self::Fault>
         requires fits { row.now.seq < 2 ^ 63 }
         ensures value { (tables : Tables) → is_clean self.new → holds self.old tables
@@ -107,8 +116,9 @@ pub trait MergeTables {
         ensures follows { OnOk result (follows self.old self.new) }
         ensures fails { IfErr result (fails self.old self.new) };
 
-    /// Gives the source package `source` on the architecture `arch` this record, whose take number, if it has one, is at most
-    /// [`wb_states::COUNT_LIMIT`], in place of the one that it had, if any; all else stays.
+    /// Gives the source package `source` on the architecture `arch` this record, whose take number,
+    /// if it has one, is at most [`wb_states::COUNT_LIMIT`], in place of the one that it had, if
+    /// any; all else stays.
     fn put(&mut self, arch: &Text, source: &Text, current: &Record) -> Result<(), Self::Fault>
         requires given { HasFittingTake current.now }
         ensures value { (tables : Tables) → is_clean self.new → holds self.old tables → OnOk result (holds self.new
@@ -116,7 +126,8 @@ pub trait MergeTables {
         ensures follows { OnOk result (follows self.old self.new) }
         ensures fails { IfErr result (fails self.old self.new) };
 
-    /// Takes out the record of the source package `source` on the architecture `arch`, if it has one; all else stays.
+    /// Takes out the record of the source package `source` on the architecture `arch`, if it has
+    /// one; all else stays.
     fn remove(&mut self, arch: &Text, source: &Text) -> Result<(), Self::Fault>
         ensures value { (tables : Tables) → is_clean self.new → holds self.old tables → OnOk result (holds self.new
             (with_records (finite.remove tables.now.machine.records (arch.now, source.now)) tables)) }

@@ -16,21 +16,21 @@ use deb_version::Version;
 use std::alloc::{AllocError, Global};
 use wb_states::{Record, State};
 
-/// Adds these versions of a name to what is available.
+/// Adds a name in these versions, or without one, to what is available.
 fn add_versions(
     available: &mut Available,
     name: &Text,
-    versions: Vec<Version>,
+    versions: Vec<Option<Version>>,
 ) -> Result<(), AllocError>
     ensures value { OnOk result (available.new ≡ with_versions available.old name.now versions.items) }
 {
     for version in versions {
-        available.add(name.as_str(), version)?;
+        available.provide(name.as_str(), version)?;
     }
     Ok(())
 }
 
-/// Adds the versions of the packages of a name that are kept to what is available.
+/// Adds a name in the versions that are kept of it to what is available.
 fn add_named<T: MergeTables>(
     tables: &mut T,
     available: &mut Available,
@@ -86,7 +86,8 @@ fn are_waits_met<T: MergeTables>(
     Ok(relations.satisfied(&available))
 }
 
-/// Of a record in Dep-Wait, whether all that it waits for is available among what is kept of Packages.
+/// Of a record in Dep-Wait, whether all that it waits for is available among what is kept of
+/// Packages.
 pub(crate) fn is_met<T: MergeTables>(
     alloc: Global,
     tables: &mut T,

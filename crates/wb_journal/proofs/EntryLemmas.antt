@@ -6,9 +6,9 @@ use Rattle.serde_json.specs.Written.{compact_text, has_float, items_have_float}
 use Rattle.wb_merge.specs.declared.changes.ArchChanges.{ArchChanges}
 use Rattle.wb_states.specs.declared.command.Command.{Command}
 use Rattle.wb_states.specs.declared.command.Command.TheVariants.{AddArch, AddBuilder, Attempted, BuildPriority, Built}
-use Rattle.wb_states.specs.declared.command.Command.TheVariants.{DepWait, Enter, Fail, GiveBack, Merge, Next}
-use Rattle.wb_states.specs.declared.command.Command.TheVariants.{NotForUs, PutBack, Rebuild, Report, Take}
-use Rattle.wb_states.specs.declared.command.Command.TheVariants.{Uploaded, Waits}
+use Rattle.wb_states.specs.declared.command.Command.TheVariants.{DepWait, Enter, Fail, Forget, GiveBack, Merge, Next}
+use Rattle.wb_states.specs.declared.command.Command.TheVariants.{NotForUs, PutBack, Rebuild, RemoveArch, RemoveBuilder}
+use Rattle.wb_states.specs.declared.command.Command.TheVariants.{Report, Take, Uploaded, Waits}
 use Rattle.wb_states.specs.declared.command.Merge.{Merge as AnyMerge}
 use Rattle.wb_states.specs.declared.command.Part.{Part}
 use Rattle.wb_states.specs.declared.command.Report.{Report as AnyReport}
@@ -31,6 +31,8 @@ items_have_float-values_of_parts (part ∷ parts) = items_have_float-values_of_p
 pub has_float-value_of_command : (command : Command) → has_float (value_of_command command) ≡ false
 has_float-value_of_command (AddArch given) = refl
 has_float-value_of_command (AddBuilder given) = refl
+has_float-value_of_command (RemoveArch given) = refl
+has_float-value_of_command (RemoveBuilder given) = refl
 has_float-value_of_command (Enter given) = refl
 has_float-value_of_command (Next given) = rw (has_float-number_or_null given.after) refl
 has_float-value_of_command (Take given) = refl
@@ -45,6 +47,7 @@ has_float-value_of_command (Fail given) = refl
 has_float-value_of_command (NotForUs given) = refl
 has_float-value_of_command (Rebuild given) = refl
 has_float-value_of_command (BuildPriority given) = rw (is_float-of_integer given.value) refl
+has_float-value_of_command (Forget given) = refl
 has_float-value_of_command (Merge given) = rw (items_have_float-values_of_parts given.parts) refl
 has_float-value_of_command (Report given) = refl
 
@@ -56,6 +59,8 @@ pub object-plain : (changes : List ArchChanges) (command : Command) → ((given 
     → compact_text (value_of_command command) ≡ object_text changes command
 object-plain changes (AddArch given) merge report = refl
 object-plain changes (AddBuilder given) merge report = refl
+object-plain changes (RemoveArch given) merge report = refl
+object-plain changes (RemoveBuilder given) merge report = refl
 object-plain changes (Enter given) merge report = refl
 object-plain changes (Next given) merge report = refl
 object-plain changes (Take given) merge report = refl
@@ -70,5 +75,6 @@ object-plain changes (Fail given) merge report = refl
 object-plain changes (NotForUs given) merge report = refl
 object-plain changes (Rebuild given) merge report = refl
 object-plain changes (BuildPriority given) merge report = refl
+object-plain changes (Forget given) merge report = refl
 object-plain changes (Merge given) merge report = absurd (merge given refl)
 object-plain changes (Report given) merge report = absurd (report given refl)

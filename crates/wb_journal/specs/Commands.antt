@@ -5,10 +5,10 @@ use Rattle.serde_json.specs.Data.{Data, Items, null, number, unsigned, string, a
 use Rattle.serde_json.specs.Find.{of_integer}
 use Rattle.serde_json.specs.View.{items_of}
 use Rattle.wb_states.specs.declared.command.Command.{Command}
-use Rattle.wb_states.specs.declared.command.Command.TheVariants.{AddArch, AddBuilder, Enter, Next, Take, Built}
-use Rattle.wb_states.specs.declared.command.Command.TheVariants.{Uploaded, Waits, PutBack, Attempted, GiveBack}
-use Rattle.wb_states.specs.declared.command.Command.TheVariants.{DepWait, Fail, NotForUs, Rebuild, BuildPriority}
-use Rattle.wb_states.specs.declared.command.Command.TheVariants.{Merge, Report}
+use Rattle.wb_states.specs.declared.command.Command.TheVariants.{AddArch, AddBuilder, RemoveArch, RemoveBuilder}
+use Rattle.wb_states.specs.declared.command.Command.TheVariants.{Enter, Next, Take, Built, Uploaded, Waits, PutBack}
+use Rattle.wb_states.specs.declared.command.Command.TheVariants.{Attempted, GiveBack, DepWait, Fail, NotForUs}
+use Rattle.wb_states.specs.declared.command.Command.TheVariants.{Rebuild, BuildPriority, Forget, Merge, Report}
 use Rattle.wb_states.specs.declared.command.Held.{Held}
 use Rattle.wb_states.specs.declared.command.Part.{Part}
 use Rattle.wb_states.specs.declared.command.SetAside.{SetAside}
@@ -72,6 +72,13 @@ value_of_command (AddBuilder given) = object
     (member (codes "arch") (string given.arch)
     (member (codes "command") (string (codes "add-builder"))
     (member (codes "name") (string given.name) no_members)))
+value_of_command (RemoveArch given) = object
+    (member (codes "command") (string (codes "remove-arch"))
+    (member (codes "name") (string given.name) no_members))
+value_of_command (RemoveBuilder given) = object
+    (member (codes "arch") (string given.arch)
+    (member (codes "command") (string (codes "remove-builder"))
+    (member (codes "name") (string given.name) no_members)))
 value_of_command (Enter given) = object
     (member (codes "arch") (string given.arch)
     (member (codes "command") (string (codes "enter"))
@@ -123,6 +130,7 @@ value_of_command (BuildPriority given) = object
     (member (codes "source") (string given.source)
     (member (codes "value") (number (of_integer given.value))
     (member (codes "version") (string given.version) no_members)))))
+value_of_command (Forget given) = named_value (codes "forget") given.arch given.source given.version
 value_of_command (Merge given) = merge_value (values_of_parts given.parts)
 value_of_command (Report given) = object
     (member (codes "arch") (string given.arch)

@@ -7,7 +7,8 @@ ghost use Rattle.wb_journal.specs.Commands.{value_of_part};
 ghost use Rattle.wb_states.specs.declared.command.Command.TheVariants.{AddArch, AddBuilder};
 ghost use Rattle.wb_states.specs.declared.command.Command.TheVariants.{Attempted, BuildPriority};
 ghost use Rattle.wb_states.specs.declared.command.Command.TheVariants.{DepWait, Enter, Merge};
-ghost use Rattle.wb_states.specs.declared.command.Command.TheVariants.{Next, Rebuild, Report};
+ghost use Rattle.wb_states.specs.declared.command.Command.TheVariants.{Next, Rebuild, RemoveArch};
+ghost use Rattle.wb_states.specs.declared.command.Command.TheVariants.{RemoveBuilder, Report};
 ghost use Rattle.wb_states.specs.declared.command.Command.TheVariants.{Take, Waits};
 
 use deb_text::Text;
@@ -24,6 +25,8 @@ pub(crate) fn value_of_command(alloc: Global, command: &Command) -> Result<Value
     match command {
         Command::AddArch(given) => value_of_arch(alloc, given),
         Command::AddBuilder(given) => value_of_builder(alloc, given),
+        Command::RemoveArch(given) => value_of_arch_removal(alloc, given),
+        Command::RemoveBuilder(given) => value_of_builder_removal(alloc, given),
         Command::Enter(given) => value_of_entering(alloc, given),
         Command::Next(given) => value_of_next(alloc, given),
         Command::Take(given) => value_of_take(alloc, given),
@@ -46,6 +49,9 @@ pub(crate) fn value_of_command(alloc: Global, command: &Command) -> Result<Value
         Command::NotForUs(given) => noted_value(alloc, "not-for-us", given),
         Command::Rebuild(given) => value_of_rebuild(alloc, given),
         Command::BuildPriority(given) => value_of_priority(alloc, given),
+        Command::Forget(given) => {
+            named_value(alloc, "forget", &given.arch, &given.source, &given.version)
+        }
         Command::Merge(given) => value_of_merge(alloc, given),
         Command::Report(given) => value_of_report(alloc, given),
     }
@@ -68,6 +74,25 @@ fn value_of_builder(alloc: Global, given: &command::AddBuilder) -> Result<Value,
     json!(in alloc; {
         "arch": given.arch.as_str(),
         "command": "add-builder",
+        "name": given.name.as_str()
+    })
+}
+
+fn value_of_arch_removal(alloc: Global, given: &command::RemoveArch) -> Result<Value, AllocError>
+    ensures { IfOk result (λ value. view value ≡ value_of_command (RemoveArch given.now)) }
+{
+    json!(in alloc; {"command": "remove-arch", "name": given.name.as_str()})
+}
+
+fn value_of_builder_removal(
+    alloc: Global,
+    given: &command::RemoveBuilder,
+) -> Result<Value, AllocError>
+    ensures { IfOk result (λ value. view value ≡ value_of_command (RemoveBuilder given.now)) }
+{
+    json!(in alloc; {
+        "arch": given.arch.as_str(),
+        "command": "remove-builder",
         "name": given.name.as_str()
     })
 }

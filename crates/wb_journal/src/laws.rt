@@ -5,8 +5,9 @@ ghost use Rattle.wb_api.specs.Keys.{names_in, names_of_entry};
 ghost use Rattle.wb_api.specs.declared.route.CommandKind.TheVariants as kind;
 ghost use Rattle.wb_journal.specs.Commands.{value_of_command};
 ghost use Rattle.wb_states.specs.Forms.{AddArch, AddBuilder, Attempted, BuildPriority, Built};
-ghost use Rattle.wb_states.specs.Forms.{DepWait, Enter, Fail, GiveBack, Next, NotForUs, PutBack};
-ghost use Rattle.wb_states.specs.Forms.{Rebuild, Take, Uploaded, Waits};
+ghost use Rattle.wb_states.specs.Forms.{DepWait, Enter, Fail, Forget, GiveBack, Next, NotForUs};
+ghost use Rattle.wb_states.specs.Forms.{PutBack, Rebuild, RemoveArch, RemoveBuilder, Take};
+ghost use Rattle.wb_states.specs.Forms.{Uploaded, Waits};
 
 /// What a journal has of a command is the body of the request that gives it, for each command that
 /// a request gives but a report, of which it has the length alone: so what was accepted can be
@@ -34,6 +35,11 @@ pub fn entries_are_bodies_of_requests()
     ensures add_builder { (name arch : List ℕ)
         → command_in kind.AddBuilder (value_of_command (AddBuilder name arch))
         ≡ Some (AddBuilder name arch) }
+    ensures remove_arch { (name : List ℕ)
+        → command_in kind.RemoveArch (value_of_command (RemoveArch name)) ≡ Some (RemoveArch name) }
+    ensures remove_builder { (name arch : List ℕ)
+        → command_in kind.RemoveBuilder (value_of_command (RemoveBuilder name arch))
+        ≡ Some (RemoveBuilder name arch) }
     ensures enter { (arch source version priority section : List ℕ)
         → command_in kind.Enter (value_of_command (Enter arch source version priority section))
         ≡ Some (Enter arch source version priority section) }
@@ -56,6 +62,8 @@ pub fn entries_are_bodies_of_requests()
     ensures minus { (arch source version : List ℕ) (less : ℕ)
         → command_in kind.BuildPriority (value_of_command (BuildPriority arch source version (negsuc less)))
         ≡ Some (BuildPriority arch source version (negsuc less)) }
+    ensures forget { (arch source version : List ℕ)
+        → command_in kind.Forget (value_of_command (Forget arch source version)) ≡ Some (Forget arch source version) }
 {}
 
 /// What a journal has of such a command has the keys of the table by which a request is read, and
@@ -80,6 +88,10 @@ pub fn entries_have_the_keys_of_requests()
         → names_in (value_of_command (AddArch name os cpu)) ≡ names_of_entry kind.AddArch }
     ensures add_builder { (name arch : List ℕ)
         → names_in (value_of_command (AddBuilder name arch)) ≡ names_of_entry kind.AddBuilder }
+    ensures remove_arch { (name : List ℕ)
+        → names_in (value_of_command (RemoveArch name)) ≡ names_of_entry kind.RemoveArch }
+    ensures remove_builder { (name arch : List ℕ)
+        → names_in (value_of_command (RemoveBuilder name arch)) ≡ names_of_entry kind.RemoveBuilder }
     ensures enter { (arch source version priority section : List ℕ)
         → names_in (value_of_command (Enter arch source version priority section))
         ≡ names_of_entry kind.Enter }
@@ -95,4 +107,6 @@ pub fn entries_have_the_keys_of_requests()
         → names_in (value_of_command (Rebuild arch source version number message)) ≡ names_of_entry kind.Rebuild }
     ensures build_priority { (arch source version : List ℕ) (value : ℤ)
         → names_in (value_of_command (BuildPriority arch source version value)) ≡ names_of_entry kind.BuildPriority }
+    ensures forget { (arch source version : List ℕ)
+        → names_in (value_of_command (Forget arch source version)) ≡ names_of_entry kind.Forget }
 {}

@@ -124,6 +124,8 @@ pub of-builder : (builder : List ℕ) (machine : Machine) (command : Command)
     → IsOfBuilder builder machine command
 of-builder builder machine (of.AddArch fields) h = cc
 of-builder builder machine (of.AddBuilder fields) h = cc
+of-builder builder machine (of.RemoveArch fields) h = cc
+of-builder builder machine (of.RemoveBuilder fields) h = cc
 of-builder builder machine (of.Enter fields) h = cc
 of-builder builder machine (of.Next fields) h = inl (fields, refl, same-text fields.builder builder h)
 of-builder builder machine (of.Take fields) h = inr (inl (fields, refl, same-text fields.builder builder h))
@@ -143,6 +145,7 @@ of-builder builder machine (of.Fail fields) h = cc
 of-builder builder machine (of.NotForUs fields) h = cc
 of-builder builder machine (of.Rebuild fields) h = cc
 of-builder builder machine (of.BuildPriority fields) h = cc
+of-builder builder machine (of.Forget fields) h = cc
 of-builder builder machine (of.Merge fields) h = cc
 of-builder builder machine (of.Report fields) h = cc
 
@@ -154,6 +157,8 @@ pub of-porter : (arch : List ℕ) (machine : Machine) (command : Command) → ma
     → IsForArch arch command
 of-porter arch machine (of.AddArch fields) h = cc
 of-porter arch machine (of.AddBuilder fields) h = cc
+of-porter arch machine (of.RemoveArch fields) h = cc
+of-porter arch machine (of.RemoveBuilder fields) h = cc
 of-porter arch machine (of.Enter fields) h = cc
 of-porter arch machine (of.Next fields) h = cc
 of-porter arch machine (of.Take fields) h = cc
@@ -168,6 +173,7 @@ of-porter arch machine (of.Fail fields) h = inr (fields.source, at arch fields.a
 of-porter arch machine (of.NotForUs fields) h = inr (fields.source, at arch fields.arch fields.source h, refl)
 of-porter arch machine (of.Rebuild fields) h = inr (fields.source, at arch fields.arch fields.source h, refl)
 of-porter arch machine (of.BuildPriority fields) h = inr (fields.source, at arch fields.arch fields.source h, refl)
+of-porter arch machine (of.Forget fields) h = cc
 of-porter arch machine (of.Merge fields) h = cc
 of-porter arch machine (of.Report fields) h = inl (fields, refl, same-text fields.arch arch h)
 

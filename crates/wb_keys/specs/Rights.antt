@@ -40,6 +40,8 @@ pub data Need : Type 0 where
 abbrev pub need_of : Command → Need
 need_of (of.AddArch fields) = Everything
 need_of (of.AddBuilder fields) = Everything
+need_of (of.RemoveArch fields) = Everything
+need_of (of.RemoveBuilder fields) = Everything
 need_of (of.Enter fields) = Everything
 need_of (of.Next fields) = InNameOf fields.builder
 need_of (of.Take fields) = InNameOf fields.builder
@@ -54,6 +56,7 @@ need_of (of.Fail fields) = OnArch fields.arch
 need_of (of.NotForUs fields) = OnArch fields.arch
 need_of (of.Rebuild fields) = OnArch fields.arch
 need_of (of.BuildPriority fields) = OnArch fields.arch
+need_of (of.Forget fields) = Everything
 need_of (of.Merge fields) = Everything
 need_of (of.Report fields) = OnArch fields.arch
 

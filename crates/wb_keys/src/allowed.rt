@@ -4,8 +4,10 @@ ghost use Rattle.std.specs.List.{list_any};
 ghost use Rattle.std.specs.Option.{option_copied};
 ghost use Rattle.wb_states.specs.Machine.{Machine};
 ghost use Rattle.wb_keys.specs.Needs.{need_named};
-ghost use Rattle.wb_keys.specs.Rights.{allows, asks_holder, holder_for, holder_needed, is_build, is_for};
-ghost use Rattle.wb_keys.specs.Rights.{is_operate, is_own, may_ask_for, may_command, meets, need_of};
+ghost use Rattle.wb_keys.specs.Rights.{allows, asks_holder, holder_for, holder_needed, is_build};
+ghost use Rattle.wb_keys.specs.Rights.{is_for};
+ghost use Rattle.wb_keys.specs.Rights.{is_operate, is_own, may_ask_for, may_command, meets};
+ghost use Rattle.wb_keys.specs.Rights.{need_of};
 ghost use Rattle.wb_keys.specs.Rights.{needed_holder, number_of, rights_named};
 
 use crate::{Kind, Right, Rights};
@@ -25,9 +27,13 @@ fn need_of(command: &Command) -> Need<'_>
     ensures { need_named result ≡ need_of command.now }
 {
     match command {
-        Command::AddArch(_) | Command::AddBuilder(_) | Command::Enter(_) | Command::Merge(_) => {
-            Need::Everything
-        }
+        Command::AddArch(_)
+        | Command::AddBuilder(_)
+        | Command::RemoveArch(_)
+        | Command::RemoveBuilder(_)
+        | Command::Enter(_)
+        | Command::Forget(_)
+        | Command::Merge(_) => Need::Everything,
         Command::Next(next) => Need::InNameOf(&next.builder),
         Command::Take(take) => Need::InNameOf(&take.builder),
         Command::Built(held) | Command::Uploaded(held) | Command::PutBack(held) => {

@@ -1,6 +1,6 @@
 -- What a merge keeps of the archive's lists has their listing, and rows that are not asked for change nothing.
-use Rattle.std.proofs.Common.{◌≡◌, ℕ, ◌+◌, Bool, true, false, cond, ◌&&◌, List, [], ◌∷◌, ◌++◌, map, filter, bytes_eq, Option, Some, None, Result, Ok, Err, refl, sym, ap, ap₂, subst, ◌∙◌}
-use Rattle.std.specs.List.{cons_option, fold}
+use Rattle.std.proofs.Common.{◌≡◌, ℕ, ◌+◌, Bool, true, false, cond, ◌&&◌, List, [], ◌∷◌, ◌++◌, map, filter, bytes_eq, Option, Some, None, Result, Ok, Err, refl, sym, ap, ap₂, ◌∙◌}
+use Rattle.std.specs.List.{flat_map, fold}
 use Rattle.std.specs.Option.{option_map}
 use Rattle.std.specs.Result.{result_map_both}
 use Rattle.std.specs.declared.cmp.Ordering.{Ordering}
@@ -11,7 +11,9 @@ use Rattle.deb_control.specs.declared.fault.ControlFaultKind.{ControlFaultKind}
 use Rattle.deb_control.specs.Lines.{lines_of, paragraphs_in}
 use Rattle.deb_control.specs.Fields.{FieldText, reading_of}
 use Rattle.deb_relations.specs.declared.arch.ArchWords.{ArchWords}
-use Rattle.deb_relations.specs.Satisfaction.{Pairs, no_pairs, versions_of, with_pair}
+use Rattle.deb_relations.specs.declared.provided.Provided.{Provided}
+use Rattle.deb_relations.specs.Provided.{provided_in}
+use Rattle.deb_relations.specs.Satisfaction.{Offer, Pairs, no_pairs, versions_of, with_pair}
 use Rattle.deb_text.specs.Options.{ok_unless}
 use Rattle.deb_text.specs.Text.{text_cmp}
 use Rattle.deb_text.proofs.KeyLemmas.{text_cmp_total, text_cmp-same}
@@ -24,11 +26,11 @@ use Rattle.wb_states.specs.declared.scratch.BinaryRow.{BinaryRow as KeptBinary}
 use Rattle.wb_merge.specs.Rows.{SourceParagraph, BinaryParagraph, source_fault, source_row, source_row_of}
 use Rattle.wb_merge.specs.Rows.{binary_row_of, of_fields, refused_at, onto_rows, rows_behind, source_paragraph}
 use Rattle.wb_merge.specs.Rows.{binary_paragraph, source_rows, binary_rows}
-use Rattle.wb_merge.specs.Listing.{ArchiveListing, best_from, better, built_as, built_cmp, built_of, builds, candidates, is_built_from, is_candidate, is_installable_on, is_listed, available_of, listed_as, listed_cmp, listed_of, listing_in, listing_of, listing_of_rows, map_at}
-use Rattle.wb_merge.specs.Scratch.{source_columns, source_row_at, binary_columns, binary_row_at, kept_of, kept_reading, kept_behind, present, kept_sources, kept_binaries, row_of_kept, listed_in, version_row_cmp, is_build_of, build_of, build_cmp, built_in, versions_in, available_in, listing_of_kept, listing_kept}
+use Rattle.wb_merge.specs.Listing.{ArchiveListing, best_from, better, built_as, built_cmp, built_of, builds, candidates, is_built_from, is_candidate, is_installable_on, is_listed, offers_of, offers_on, with_offer, available_of, listed_as, listed_cmp, listed_of, listing_in, listing_of, listing_of_rows, map_at}
+use Rattle.wb_merge.specs.Scratch.{source_columns, source_row_at, binary_columns, binary_rows_at, is_binary_wanted, joined_rows, kept_of, kept_reading, kept_behind, provided_columns, kept_sources, kept_binaries, row_of_kept, listed_in, version_row_cmp, is_build_of, build_of, build_cmp, built_in, versions_in, available_in, listing_of_kept, listing_kept}
 use Rattle.wb_merge.proofs.AvailableLemmas.{more-of, none-yet}
 use Rattle.wb_merge.proofs.FoldLemmas.{map-get}
-use Rattle.wb_merge.proofs.NameLemmas.{bytes_eq-is, bytes_eq-turned}
+use Rattle.wb_merge.proofs.NameLemmas.{bytes_eq-turned}
 
 -- ---- filters, and the best of a list
 
@@ -111,6 +113,37 @@ pub versions_in-filter : (keep : KeptBinary → Bool) (rows : List KeptBinary) (
 unfolding versions_in
 versions_in-filter keep rows name kept = ap (map (λ (row : KeptBinary). row.version)) (filter-weaker (λ row. bytes_eq name row.name) keep kept rows)
 
+-- ---- what can matter of a row
+
+-- of the names that a package provides those that are wanted
+provided-wanted : (wanted : List ℕ → Bool) (at : ℕ) (row : BinaryParagraph) (given : List Provided)
+    → map (provided_columns at row) (filter (λ one. wanted one.name) given)
+    ≡ filter (is_binary_wanted wanted) (map (provided_columns at row) given)
+provided-wanted wanted at row given = sym (filter-map (is_binary_wanted wanted) (provided_columns at row) given)
+
+pub installed-wanted : (arch : ArchWords) (wanted : List ℕ → Bool) (at : ℕ) (row : BinaryParagraph) (given : List Provided)
+    → is_installable_on arch row ≡ true → given ≡ filter (λ one. wanted one.name) (provided_in row.provides)
+    → filter (is_binary_wanted wanted) (binary_columns arch at row ∷ []) ++ map (provided_columns at row) given
+    ≡ filter (is_binary_wanted wanted) (kept_of arch at row)
+unfolding kept_of
+installed-wanted arch wanted at row given there is =
+    ap (λ (l : List KeptBinary). filter (is_binary_wanted wanted) (binary_columns arch at row ∷ []) ++ l)
+    (ap (map (provided_columns at row)) is ∙ provided-wanted wanted at row (provided_in row.provides))
+    ∙ by (is_binary_wanted wanted (binary_columns arch at row))
+    ∙ ap (λ b. filter (is_binary_wanted wanted) (cond b (binary_columns arch at row ∷ map (provided_columns at row) (provided_in row.provides)) [])) (sym there)
+  where
+    rest : List KeptBinary
+    rest = filter (is_binary_wanted wanted) (map (provided_columns at row) (provided_in row.provides))
+
+    by : (b : Bool) → cond b (binary_columns arch at row ∷ []) [] ++ rest ≡ cond b (binary_columns arch at row ∷ rest) rest
+    by true = refl
+    by false = refl
+
+pub other-wanted : (arch : ArchWords) (wanted : List ℕ → Bool) (at : ℕ) (row : BinaryParagraph)
+    → is_installable_on arch row ≡ false → [] ≡ filter (is_binary_wanted wanted) (kept_of arch at row)
+unfolding kept_of
+other-wanted arch wanted at row other = rw other refl
+
 -- ---- what is kept of paragraphs
 
 with-fault : (number : ℕ) (fault : Option ListingFault) (fields : List FieldText)
@@ -147,14 +180,14 @@ unfolding source_rows kept_sources
 source_rows-kept text = sources-behind 0 (paragraphs_in (lines_of text))
 
 -- what is kept of rows after so many others
-abbrev kept_each : ArchWords → ℕ → List BinaryParagraph → List (Option KeptBinary)
+abbrev kept_each : ArchWords → ℕ → List BinaryParagraph → List (List KeptBinary)
 kept_each arch passed [] = []
 kept_each arch passed (row ∷ rows) = kept_of arch (passed + 1) row ∷ kept_each arch (passed + 1) rows
 
 one-binary : (arch : ArchWords) (number : ℕ) (reading : Result (List FieldText) ControlFaultKind)
-    → kept_reading Packages number (binary_row_at arch number) reading
+    → kept_reading Packages number (binary_rows_at arch number) reading
     ≡ result_map_both (kept_of arch number) (λ refusal. refusal) (refused_at Packages number (of_fields binary_row_of reading))
-unfolding binary_row_at
+unfolding binary_rows_at
 one-binary arch number (Err kind) = refl
 one-binary arch number (Ok fields) = both (binary_row_of fields)
   where
@@ -172,7 +205,7 @@ onto-kept arch passed (Ok row) (Err refusal) = refl
 onto-kept arch passed (Ok row) (Ok rows) = refl
 
 binaries-behind : (arch : ArchWords) (passed : ℕ) (paragraphs : List (List (List ℕ)))
-    → kept_behind Packages (binary_row_at arch) passed paragraphs
+    → kept_behind Packages (binary_rows_at arch) passed paragraphs
     ≡ result_map_both (kept_each arch passed) (λ refusal. refusal) (rows_behind binary_paragraph Packages passed paragraphs)
 binaries-behind arch passed [] = refl
 binaries-behind arch passed (lines ∷ later) =
@@ -180,17 +213,17 @@ binaries-behind arch passed (lines ∷ later) =
     ∙ onto-kept arch passed (refused_at Packages (passed + 1) (binary_paragraph lines)) (rows_behind binary_paragraph Packages (passed + 1) later)
 
 map-twice : (arch : ArchWords) (rows : Result (List BinaryParagraph) Refusal)
-    → result_map_both present (λ refusal. refusal) (result_map_both (kept_each arch 0) (λ refusal. refusal) rows)
-    ≡ result_map_both (λ rows. present (kept_each arch 0 rows)) (λ refusal. refusal) rows
+    → result_map_both joined_rows (λ refusal. refusal) (result_map_both (kept_each arch 0) (λ refusal. refusal) rows)
+    ≡ result_map_both (λ rows. joined_rows (kept_each arch 0 rows)) (λ refusal. refusal) rows
 map-twice arch (Ok rows) = refl
 map-twice arch (Err refusal) = refl
 
 kept_binaries-rows : (arch : ArchWords) (text : List ℕ)
     → kept_binaries arch text
-    ≡ result_map_both (λ rows. present (kept_each arch 0 rows)) (λ refusal. refusal) (binary_rows text)
+    ≡ result_map_both (λ rows. joined_rows (kept_each arch 0 rows)) (λ refusal. refusal) (binary_rows text)
 unfolding kept_binaries binary_rows
 kept_binaries-rows arch text =
-    ap (result_map_both present (λ refusal. refusal)) (binaries-behind arch 0 (paragraphs_in (lines_of text)))
+    ap (result_map_both joined_rows (λ refusal. refusal)) (binaries-behind arch 0 (paragraphs_in (lines_of text)))
     ∙ map-twice arch (rows_behind binary_paragraph Packages 0 (paragraphs_in (lines_of text)))
 
 -- ---- the listing of what is kept
@@ -200,9 +233,22 @@ own-installable : (arch : ArchWords) (row : BinaryParagraph) → bytes_eq arch.n
 unfolding is_installable_on
 own-installable arch row e = rw (bytes_eq-turned row.arch arch.name ∙ e) refl
 
+-- no row of a name that is provided is of a build
+none-built : (named : Bool) → (named && false) ≡ false
+none-built true = refl
+none-built false = refl
+
+provided-builds : (name : List ℕ) (at : ℕ) (row : BinaryParagraph) (given : List Provided) (rest : List KeptBinary)
+    → filter (is_build_of name) (map (provided_columns at row) given ++ rest) ≡ filter (is_build_of name) rest
+provided-builds name at row [] rest = refl
+provided-builds name at row (one ∷ given) rest =
+    let others = filter (is_build_of name) (map (provided_columns at row) given ++ rest) in
+    ap (λ b. cond b (provided_columns at row one ∷ others) others) (none-built (bytes_eq name []))
+    ∙ provided-builds name at row given rest
+
 builds-kept : (arch : ArchWords) (passed : ℕ) (rows : List BinaryParagraph) (name : List ℕ)
     → map built_as (filter (is_built_from arch name) rows)
-    ≡ map build_of (filter (is_build_of name) (present (kept_each arch passed rows)))
+    ≡ map build_of (filter (is_build_of name) (joined_rows (kept_each arch passed rows)))
 unfolding is_built_from kept_of
 builds-kept arch passed [] name = refl
 builds-kept arch passed (row ∷ rows) name =
@@ -212,34 +258,57 @@ builds-kept arch passed (row ∷ rows) name =
     ours = filter (is_built_from arch name) rows
 
     kept : List KeptBinary
-    kept = present (kept_each arch (passed + 1) rows)
+    kept = joined_rows (kept_each arch (passed + 1) rows)
+
+    given : List KeptBinary
+    given = map (provided_columns (passed + 1) row) (provided_in row.provides)
+
+    later : map build_of (filter (is_build_of name) (given ++ kept)) ≡ map build_of (filter (is_build_of name) kept)
+    later = ap (map build_of) (provided-builds name (passed + 1) row (provided_in row.provides) kept)
 
     go : (named own there : Bool) → bytes_eq name row.source ≡ named → bytes_eq arch.name row.arch ≡ own
         → (bytes_eq arch.name row.arch ≡ true → there ≡ true)
         → map built_as (filter (is_built_from arch name) rows)
-        ≡ map build_of (filter (is_build_of name) (present (kept_each arch (passed + 1) rows)))
+        ≡ map build_of (filter (is_build_of name) (joined_rows (kept_each arch (passed + 1) rows)))
         → map built_as (cond (named && own) (row ∷ filter (is_built_from arch name) rows) (filter (is_built_from arch name) rows))
-        ≡ map build_of (filter (is_build_of name) (cons_option (cond there (Some (binary_columns arch (passed + 1) row)) None) (present (kept_each arch (passed + 1) rows))))
-    go true true true n o is more = rw (n, o) (ap (λ l. built_as row ∷ l) more)
+        ≡ map build_of (filter (is_build_of name) (cond there (binary_columns arch (passed + 1) row ∷ given) [] ++ kept))
+    go true true true n o is more = rw (n, o) (ap (λ l. built_as row ∷ l) (more ∙ sym later))
     go true true false n o is more = absurd (cc (is o))
-    go true false true n o is more = rw (n, o) more
+    go true false true n o is more = rw (n, o) (more ∙ sym later)
     go true false false n o is more = more
-    go false own true n o is more = rw n more
+    go false own true n o is more = rw n (more ∙ sym later)
     go false own false n o is more = more
 
+-- a row more among what is available
+abbrev with_kept : Pairs → KeptBinary → Pairs
+with_kept pairs row = with_pair pairs row.name row.version
+
+provided-available : (at : ℕ) (row : BinaryParagraph) (given others : List Provided) (kept : List KeptBinary)
+    → ((pairs : Pairs) → fold with_offer pairs others ≡ fold with_kept pairs kept)
+    → (pairs : Pairs) → fold with_offer pairs (given ++ others) ≡ fold with_kept pairs (map (provided_columns at row) given ++ kept)
+provided-available at row [] others kept later pairs = later pairs
+provided-available at row (one ∷ given) others kept later pairs =
+    provided-available at row given others kept later (with_offer pairs one)
+
 available-kept : (arch : ArchWords) (passed : ℕ) (rows : List BinaryParagraph) (pairs : Pairs)
-    → fold (λ pairs row. with_pair pairs row.name row.version) pairs (filter (is_installable_on arch) rows)
-    ≡ fold (λ pairs row. with_pair pairs row.name row.version) pairs (present (kept_each arch passed rows))
-unfolding kept_of
+    → fold with_offer pairs (offers_on arch rows) ≡ fold with_kept pairs (joined_rows (kept_each arch passed rows))
+unfolding offers_on kept_of
 available-kept arch passed [] pairs = refl
 available-kept arch passed (row ∷ rows) pairs = go (is_installable_on arch row) (available-kept arch (passed + 1) rows)
   where
+    others : List BinaryParagraph
+    others = filter (is_installable_on arch) rows
+
+    kept : List KeptBinary
+    kept = joined_rows (kept_each arch (passed + 1) rows)
+
     go : (there : Bool)
-        → ((pairs : Pairs) → fold (λ pairs row. with_pair pairs row.name row.version) pairs (filter (is_installable_on arch) rows)
-        ≡ fold (λ pairs row. with_pair pairs row.name row.version) pairs (present (kept_each arch (passed + 1) rows)))
-        → fold (λ pairs row. with_pair pairs row.name row.version) pairs (cond there (row ∷ filter (is_installable_on arch) rows) (filter (is_installable_on arch) rows))
-        ≡ fold (λ pairs row. with_pair pairs row.name row.version) pairs (cons_option (cond there (Some (binary_columns arch (passed + 1) row)) None) (present (kept_each arch (passed + 1) rows)))
-    go true later = later (with_pair pairs row.name row.version)
+        → ((pairs : Pairs) → fold with_offer pairs (flat_map offers_of others) ≡ fold with_kept pairs kept)
+        → fold with_offer pairs (flat_map offers_of (cond there (row ∷ others) others))
+        ≡ fold with_kept pairs (cond there (binary_columns arch (passed + 1) row ∷ map (provided_columns (passed + 1) row) (provided_in row.provides)) [] ++ kept)
+    go true later =
+        provided-available (passed + 1) row (provided_in row.provides) (flat_map offers_of others) kept later
+        (with_pair pairs row.name (Some row.version))
     go false later = later pairs
 
 -- what the listing of what is kept has of a source package
@@ -272,29 +341,29 @@ pub versions-kept : (arch : ArchWords) (sources : List KeptSource) (binaries : L
 unfolding listing_of_kept available_in versions_in
 versions-kept arch sources binaries name =
     more-of (λ (row : KeptBinary). row.name) (λ row. row.version) no_pairs name binaries
-    ∙ ap (λ (xs : List (List ℕ)). xs ++ map (λ (row : KeptBinary). row.version) (filter (λ row. bytes_eq name row.name) binaries)) (none-yet name)
+    ∙ ap (λ (xs : List Offer). xs ++ map (λ (row : KeptBinary). row.version) (filter (λ row. bytes_eq name row.name) binaries)) (none-yet name)
 
 built_of-kept : (arch : ArchWords) (rows : List BinaryParagraph) (name : List ℕ)
-    → built_of arch rows name ≡ built_in (present (kept_each arch 0 rows)) name
+    → built_of arch rows name ≡ built_in (joined_rows (kept_each arch 0 rows)) name
 unfolding built_of builds built_in
 built_of-kept arch rows name = ap (best_from built_cmp None) (builds-kept arch 0 rows name)
 
 rows-kept : (arch : ArchWords) (sources : List KeptSource) (rows : List BinaryParagraph)
     → listing_of_rows arch (map row_of_kept sources) rows
-    ≡ listing_of_kept arch sources (present (kept_each arch 0 rows))
+    ≡ listing_of_kept arch sources (joined_rows (kept_each arch 0 rows))
 unfolding listing_of_rows listing_of_kept listed_in available_of available_in
 rows-kept arch sources rows =
     let built : map_at {R = text_cmp} (built_of arch rows) (map (λ row. row.source) rows)
-    ≡ map_at (built_in (present (kept_each arch 0 rows))) (map (λ row. row.source) (present (kept_each arch 0 rows))) =
+    ≡ map_at (built_in (joined_rows (kept_each arch 0 rows))) (map (λ row. row.source) (joined_rows (kept_each arch 0 rows))) =
     finite.same_map text_cmp_total text_cmp-same _ _ (λ name.
-    built-there arch rows name ∙ built_of-kept arch rows name ∙ sym (built-in-there (present (kept_each arch 0 rows)) name)) in
+    built-there arch rows name ∙ built_of-kept arch rows name ∙ sym (built-in-there (joined_rows (kept_each arch 0 rows)) name)) in
     let listed = ap (map_at {R = text_cmp} (listed_of arch (map row_of_kept sources))) (map-map (λ (row : SourceParagraph). row.name) row_of_kept sources) in
     let available = available-kept arch 0 rows no_pairs in
     λ i. record { listed = listed i; built = built i; available = available i }
 
 in-kept : (arch : ArchWords) (sources : Result (List KeptSource) Refusal) (rows : Result (List BinaryParagraph) Refusal)
     → listing_in arch (result_map_both (map row_of_kept) (λ refusal. refusal) sources) rows
-    ≡ listing_kept arch sources (result_map_both (λ rows. present (kept_each arch 0 rows)) (λ refusal. refusal) rows)
+    ≡ listing_kept arch sources (result_map_both (λ rows. joined_rows (kept_each arch 0 rows)) (λ refusal. refusal) rows)
 in-kept arch (Err refusal) rows = refl
 in-kept arch (Ok sources) (Err refusal) = refl
 in-kept arch (Ok sources) (Ok rows) = ap (λ (listing : ArchiveListing). Ok listing) (rows-kept arch sources rows)

@@ -1,15 +1,16 @@
 -- The listing that rows give which are offered one after another.
 use Rattle.std.proofs.Common.{◌≡◌, ℕ, Bool, true, false, cond, None, bytes_eq, List, [], ◌∷◌, map, filter, Result, Ok, Err, refl, sym, ◌∙◌}
-use Rattle.std.specs.List.{fold}
+use Rattle.std.specs.List.{flat_map, fold}
 use Rattle.std.specs.FinMap as finite
+use Rattle.std.proofs.lemmas.Grind.{fold-append}
 use Rattle.deb_relations.specs.declared.arch.ArchWords.{ArchWords}
 use Rattle.deb_text.specs.Text.{text_cmp}
-use Rattle.deb_relations.specs.Satisfaction.{Pairs, no_pairs, with_pair}
+use Rattle.deb_relations.specs.Satisfaction.{Pairs, no_pairs}
 use Rattle.wb_states.specs.declared.refusal.Refusal.{Refusal}
 use Rattle.wb_merge.specs.declared.listing.Listed.{Listed}
 use Rattle.wb_merge.specs.declared.listing.Built.{Built}
 use Rattle.wb_merge.specs.Rows.{SourceParagraph, BinaryParagraph, source_rows, binary_rows}
-use Rattle.wb_merge.specs.Listing.{map_at, listed_cmp, listed_as, is_candidate, candidates, listed_of, built_cmp, built_as, is_built_from, builds, built_of, is_installable_on, available_of, listing_of_rows, best_from, listing_in, listing_of, is_listed}
+use Rattle.wb_merge.specs.Listing.{map_at, listed_cmp, listed_as, is_candidate, candidates, listed_of, built_cmp, built_as, is_built_from, builds, built_of, is_installable_on, offers_of, offers_on, with_offer, available_of, listing_of_rows, best_from, listing_in, listing_of, is_listed}
 use Rattle.wb_merge.specs.Offers.{after_rows, with_listed, with_build, with_package, with_binary}
 use Rattle.wb_merge.proofs.FoldLemmas.{fold-map, map-get}
 
@@ -24,16 +25,15 @@ unfolding with_build built_of builds is_built_from
 builds-map arch rows = fold-map built_cmp (λ row. bytes_eq arch.name row.arch) (λ row. row.source) built_as rows
 
 -- what is available
-abbrev adds : Pairs → BinaryParagraph → Pairs
-adds pairs row = with_pair pairs row.name row.version
-
 one-package : (b : Bool) (pairs : Pairs) (row : BinaryParagraph) (rows : List BinaryParagraph)
-    → fold adds (cond b (with_pair pairs row.name row.version) pairs) rows ≡ fold adds pairs (cond b (row ∷ rows) rows)
-one-package true pairs row rows = refl
+    → fold with_offer (cond b (fold with_offer pairs (offers_of row)) pairs) (flat_map offers_of rows)
+    ≡ fold with_offer pairs (flat_map offers_of (cond b (row ∷ rows) rows))
+one-package true pairs row rows = sym (fold-append with_offer pairs (offers_of row) (flat_map offers_of rows))
 one-package false pairs row rows = refl
 
-packages-fold : (arch : ArchWords) (rows : List BinaryParagraph) (pairs : Pairs) → fold (with_package arch) pairs rows ≡ fold adds pairs (filter (is_installable_on arch) rows)
-unfolding with_package
+packages-fold : (arch : ArchWords) (rows : List BinaryParagraph) (pairs : Pairs)
+    → fold (with_package arch) pairs rows ≡ fold with_offer pairs (offers_on arch rows)
+unfolding with_package offers_on
 packages-fold arch [] pairs = refl
 packages-fold arch (row ∷ rows) pairs =
     packages-fold arch rows (with_package arch pairs row) ∙ one-package (is_installable_on arch row) pairs row (filter (is_installable_on arch) rows)

@@ -2,12 +2,12 @@
 use Rattle.std.specs.Prelude.{◌≡◌, ℕ, false, List, [], codes, Option, Some, option_map}
 use Rattle.std.specs.FinMap as map
 use Rattle.deb_relations.specs.declared.arch.ArchWords.{ArchWords}
-use Rattle.deb_relations.specs.Satisfaction.{versions_of}
+use Rattle.deb_relations.specs.Satisfaction.{Offer, versions_of}
 use Rattle.wb_states.specs.declared.record.Record.{Record}
 use Rattle.wb_states.specs.declared.state.State.{State}
 use Rattle.wb_merge.specs.declared.listing.Listed.{Listed}
 use Rattle.wb_merge.specs.declared.listing.Built.{Built}
-use Rattle.wb_merge.specs.Rows.{BinaryParagraph, SourceParagraph, with_source}
+use Rattle.wb_merge.specs.Rows.{BinaryParagraph, SourceParagraph, with_source, without_source}
 use Rattle.wb_merge.specs.Listing.{ArchiveListing, listed_of}
 use Rattle.wb_merge.specs.Merge.{blank_record}
 use Rattle.wb_merge.specs.Merged.{Records, merged}
@@ -33,6 +33,10 @@ source_of name version archs = record {
 -- a package in a Packages list, of this version and architecture, and with this text of its field Source
 abbrev pub binary_of : List ℕ → List ℕ → List ℕ → List ℕ → BinaryParagraph
 binary_of name version arch source = with_source name version arch (Some source)
+
+-- a package in a Packages list for every architecture, of this version, and with this text of its field Provides
+abbrev pub provider_of : List ℕ → List ℕ → List ℕ → BinaryParagraph
+provider_of name version provides = record (without_source name version (codes "all")) { provides = provides }
 
 -- the version that is listed of a source package for an architecture, if one is
 abbrev pub version_listed : ArchWords → List SourceParagraph → List ℕ → Option (List ℕ)
@@ -76,8 +80,8 @@ Becomes name listed built current new = (old : Records) (listing : ArchiveListin
     → map.get listing.listed name ≡ listed → map.get listing.built name ≡ built → map.get old (on_amd64 name) ≡ current
     → map.get (merged old (codes "amd64") listing) (on_amd64 name) ≡ new
 
--- the same if a package of this name is available in these versions
-abbrev pub BecomesBeside : List ℕ → List (List ℕ) → List ℕ → Option Listed → Option Built → Option Record → Option Record → Type 0
+-- the same if this name is available in these versions, or without one
+abbrev pub BecomesBeside : List ℕ → List Offer → List ℕ → Option Listed → Option Built → Option Record → Option Record → Type 0
 BecomesBeside other versions name listed built current new = (old : Records) (listing : ArchiveListing)
     → versions_of listing.available other ≡ versions
     → map.get listing.listed name ≡ listed → map.get listing.built name ≡ built → map.get old (on_amd64 name) ≡ current

@@ -1,6 +1,6 @@
 -- What the archive lists for an architecture: each source package, what was built of it, and what is available.
 use Rattle.std.specs.Prelude.{◌≡◌, ◌≢◌, ℕ, Bool, true, not, ◌&&◌, ◌||◌, nat_lt, List, [], ◌∷◌, ◌++◌, length, filter, map, codes, bytes_eq, Option, Some, None, unwrap_or, Result, Ok, Err, if◌then◌else◌}
-use Rattle.std.specs.List.{list_any, filter_map, fold, AllByRecursion}
+use Rattle.std.specs.List.{list_any, filter_map, flat_map, fold, AllByRecursion}
 use Rattle.std.specs.Option.{option_map}
 use Rattle.std.specs.declared.cmp.Ordering.{Ordering}
 use Rattle.std.specs.declared.cmp.Ordering.TheVariants.{Less, Greater}
@@ -9,11 +9,13 @@ use Rattle.std.specs.FinMap as finite
 use Rattle.deb_version.specs.Order.{version_cmp}
 use Rattle.deb_relations.specs.declared.arch.ArchWords.{ArchWords}
 use Rattle.deb_relations.specs.declared.fault.RelationFault.{RelationFault}
+use Rattle.deb_relations.specs.declared.provided.Provided.{Provided}
 use Rattle.deb_relations.specs.declared.relations.Alternative.{Alternative}
 use Rattle.deb_text.specs.Text.{text_cmp, is_empty_text}
 use Rattle.deb_relations.specs.Arch.{arch_matches}
+use Rattle.deb_relations.specs.Provided.{named_offer, provided_in}
 use Rattle.deb_relations.specs.Reading.{reading_of}
-use Rattle.deb_relations.specs.Satisfaction.{Pairs, no_pairs, with_pair}
+use Rattle.deb_relations.specs.Satisfaction.{Offer, Pairs, no_pairs, with_pair}
 use Rattle.wb_states.specs.declared.refusal.Refusal.{Refusal}
 use Rattle.wb_states.specs.Limits.{relations_limit}
 use Rattle.wb_states.specs.Moves.{waits_for}
@@ -138,15 +140,26 @@ built_of arch rows name = best_from built_cmp None (builds arch rows name)
 unfoldable pub is_installable_on : ArchWords → BinaryParagraph → Bool
 is_installable_on arch row = bytes_eq row.arch arch.name || bytes_eq row.arch (codes "all")
 
--- every pair of a name and a version that can be installed on the architecture (that `Provides` is not read is this project's own)
-unfoldable pub available_of : ArchWords → List BinaryParagraph → Pairs
-available_of arch rows =
-    fold (λ pairs row. with_pair pairs row.name row.version) no_pairs (filter (is_installable_on arch) rows)
+-- what a package offers: its own name in its version, and each name that it provides (Debian Policy 7.5)
+abbrev pub offers_of : BinaryParagraph → List Provided
+offers_of row = named_offer row.name (Some row.version) ∷ provided_in row.provides
 
--- the versions of the packages of a name that can be installed on the architecture, in their order
-abbrev pub installable_versions : ArchWords → List BinaryParagraph → List ℕ → List (List ℕ)
+-- what the packages offer that can be installed on the architecture, in their order
+unfoldable pub offers_on : ArchWords → List BinaryParagraph → List Provided
+offers_on arch rows = flat_map offers_of (filter (is_installable_on arch) rows)
+
+-- what is available, with an offer more
+abbrev pub with_offer : Pairs → Provided → Pairs
+with_offer pairs offer = with_pair pairs offer.name offer.version
+
+-- every name that is offered on the architecture, with its version or without one (Debian Policy 7.5)
+unfoldable pub available_of : ArchWords → List BinaryParagraph → Pairs
+available_of arch rows = fold with_offer no_pairs (offers_on arch rows)
+
+-- in which versions a name is offered on the architecture, in their order; none where it is offered without one
+abbrev pub installable_versions : ArchWords → List BinaryParagraph → List ℕ → List Offer
 installable_versions arch rows name =
-    map (λ row. row.version) (filter (λ row. bytes_eq name row.name) (filter (is_installable_on arch) rows))
+    map (λ offer. offer.version) (filter (λ offer. bytes_eq name offer.name) (offers_on arch rows))
 
 -- ---- the listing
 

@@ -7,14 +7,14 @@ use Rattle.std.specs.FinMap as finite
 use Rattle.deb_control.specs.Paragraphs.{ReaderState}
 use Rattle.deb_relations.specs.declared.arch.ArchWords.{ArchWords}
 use Rattle.deb_text.specs.Text.{text_cmp}
-use Rattle.deb_relations.specs.Satisfaction.{Pairs, with_pair}
+use Rattle.deb_relations.specs.Satisfaction.{Pairs}
 use Rattle.wb_states.specs.declared.refusal.Refusal.{Refusal}
 use Rattle.wb_states.specs.declared.refusal.ListKind.{ListKind}
 use Rattle.wb_states.specs.declared.refusal.ListingFault.{ListingFault}
 use Rattle.wb_merge.specs.declared.listing.Listed.{Listed}
 use Rattle.wb_merge.specs.declared.listing.Built.{Built}
 use Rattle.wb_merge.specs.Rows.{SourceParagraph, BinaryParagraph, rows_behind, onto_rows}
-use Rattle.wb_merge.specs.Listing.{is_better, is_listed, listed_cmp, listed_as, built_cmp, built_as, is_installable_on}
+use Rattle.wb_merge.specs.Listing.{is_better, is_listed, listed_cmp, listed_as, built_cmp, built_as, is_installable_on, offers_of, with_offer}
 
 -- ---- what a row adds
 
@@ -32,7 +32,7 @@ with_build arch built row = if bytes_eq arch.name row.arch then offered built_cm
 
 -- what is available, with a row more
 unfoldable pub with_package : ArchWords → Pairs → BinaryParagraph → Pairs
-with_package arch available row = if is_installable_on arch row then with_pair available row.name row.version else available
+with_package arch available row = if is_installable_on arch row then fold with_offer available (offers_of row) else available
 
 -- what is built and what is available
 abbrev pub PackageOffers : Type 0

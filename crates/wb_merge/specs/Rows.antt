@@ -154,6 +154,7 @@ pub record BinaryParagraph : Type 0 where
   pub source : List ℕ
   pub source_version : List ℕ
   pub number : ℕ
+  pub provides : List ℕ
 
 -- the row of a paragraph of a Sources list (which fields are read is this project's own)
 abbrev pub source_row : List FieldText → SourceParagraph
@@ -177,6 +178,7 @@ without_source name version arch = record {
   source = name;
   source_version = version;
   number = 0;
+  provides = [];
 }
 
 -- the row of a binary package and the source that it names, if any (Debian Policy 5.6.1; that `+bN` counts only beside a version is this project's own)
@@ -188,11 +190,15 @@ with_source name version arch (Some text) = record (without_source name version 
   number = if has_source_version text then rebuild_number version else 0;
 }
 
--- the row of a paragraph of a Packages list
-abbrev pub binary_row : List FieldText → BinaryParagraph
-binary_row fields =
+-- the package of a paragraph of a Packages list, with the source that it names
+abbrev pub package_row : List FieldText → BinaryParagraph
+package_row fields =
     with_source (text_named (codes "Package") fields) (text_named (codes "Version") fields)
     (text_named (codes "Architecture") fields) (value_named (codes "Source") fields)
+
+-- the row of a paragraph of a Packages list: its package, and what that provides (Debian Policy 7.5)
+abbrev pub binary_row : List FieldText → BinaryParagraph
+binary_row fields = record (package_row fields) { provides = text_named (codes "Provides") fields }
 
 -- the row of a paragraph of a Sources list, or its fault
 unfoldable pub source_row_of : List FieldText → Result SourceParagraph ListingFault

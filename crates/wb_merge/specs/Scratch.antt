@@ -1,6 +1,6 @@
 -- What a merge keeps of the archive's lists while it runs, and what that makes of a record.
-use Rattle.std.specs.Prelude.{ℕ, ◌+◌, Bool, ◌&&◌, List, [], ◌∷◌, filter, map, codes, bytes_eq, Option, Some, None, Result, Ok, Err, if◌then◌else◌}
-use Rattle.std.specs.List.{filter_map, fold}
+use Rattle.std.specs.Prelude.{ℕ, ◌+◌, Bool, false, ◌&&◌, ◌||◌, List, [], ◌∷◌, filter, map, codes, bytes_eq, Option, Some, None, Result, Ok, Err, if◌then◌else◌}
+use Rattle.std.specs.List.{flat_map, fold}
 use Rattle.std.specs.Result.{result_map_both}
 use Rattle.std.specs.declared.cmp.Ordering.{Ordering}
 use Rattle.std.specs.Ordering.{on}
@@ -9,7 +9,9 @@ use Rattle.deb_control.specs.declared.fault.ControlFaultKind.{ControlFaultKind}
 use Rattle.deb_control.specs.Lines.{lines_of, paragraphs_in}
 use Rattle.deb_control.specs.Fields.{FieldText, reading_of}
 use Rattle.deb_relations.specs.declared.arch.ArchWords.{ArchWords}
-use Rattle.deb_relations.specs.Satisfaction.{Pairs, no_pairs, with_pair}
+use Rattle.deb_relations.specs.declared.provided.Provided.{Provided}
+use Rattle.deb_relations.specs.Provided.{provided_in}
+use Rattle.deb_relations.specs.Satisfaction.{Offer, Pairs, no_pairs, with_pair}
 use Rattle.deb_text.specs.Lines.{words_in}
 use Rattle.deb_text.specs.Options.{ok_unless}
 use Rattle.wb_states.specs.declared.record.Record.{Record}
@@ -46,25 +48,48 @@ source_columns at fields = record {
 unfoldable pub source_row_at : ℕ → List FieldText → Result KeptSource Refusal
 source_row_at at fields = result_map_both (λ row. row) (BadListing Sources at) (ok_unless (source_fault fields) (source_columns at fields))
 
--- what is kept of the row of the paragraph of this number of a Packages list
+-- what is kept of the package of the paragraph of this number of a Packages list
 abbrev pub binary_columns : ArchWords → ℕ → BinaryParagraph → KeptBinary
 binary_columns arch at row = record {
   seq = at;
   name = row.name;
-  version = row.version;
+  version = Some row.version;
   source = row.source;
   source_version = row.source_version;
   number = row.number;
   own = bytes_eq arch.name row.arch;
 }
 
--- what is kept of a row of a Packages list: nothing if it cannot be installed on the architecture
-unfoldable pub kept_of : ArchWords → ℕ → BinaryParagraph → Option KeptBinary
-kept_of arch at row = if is_installable_on arch row then Some (binary_columns arch at row) else None
+-- what is kept of a name that the package of the paragraph of this number provides: it was built from no source package
+abbrev pub provided_columns : ℕ → BinaryParagraph → Provided → KeptBinary
+provided_columns at row given = record {
+  seq = at;
+  name = given.name;
+  version = given.version;
+  source = [];
+  source_version = row.source_version;
+  number = 0;
+  own = false;
+}
+
+-- what is kept of a row of a Packages list: its package, and then each name that this provides (Debian Policy 7.5); nothing if it cannot be installed on the architecture
+unfoldable pub kept_of : ArchWords → ℕ → BinaryParagraph → List KeptBinary
+kept_of arch at row =
+    if is_installable_on arch row
+    then binary_columns arch at row ∷ map (provided_columns at row) (provided_in row.provides) else []
 
 -- what is kept of the paragraph of this number of a Packages list, or the refusal for its fault, whatever its architecture
-unfoldable pub binary_row_at : ArchWords → ℕ → List FieldText → Result (Option KeptBinary) Refusal
-binary_row_at arch at fields = result_map_both (kept_of arch at) (BadListing Packages at) (binary_row_of fields)
+unfoldable pub binary_rows_at : ArchWords → ℕ → List FieldText → Result (List KeptBinary) Refusal
+binary_rows_at arch at fields = result_map_both (kept_of arch at) (BadListing Packages at) (binary_row_of fields)
+
+-- whether a row can matter to a merge: it is of the architecture's own, or its name is wanted
+abbrev pub is_binary_wanted : (List ℕ → Bool) → KeptBinary → Bool
+is_binary_wanted wanted row = row.own || wanted row.name
+
+-- of what is kept of the paragraph of this number of a Packages list the rows that can matter, or the refusal for its fault
+abbrev pub wanted_rows_at : ArchWords → (List ℕ → Bool) → ℕ → List FieldText → Result (List KeptBinary) Refusal
+wanted_rows_at arch wanted at fields =
+    result_map_both (filter (is_binary_wanted wanted)) (λ refusal. refusal) (binary_rows_at arch at fields)
 
 -- ---- what is kept of a list
 
@@ -79,9 +104,9 @@ kept_behind which row_at passed [] = Ok []
 kept_behind which row_at passed (lines ∷ later) =
     onto_rows (kept_reading which (passed + 1) (row_at (passed + 1)) (reading_of lines)) (kept_behind which row_at (passed + 1) later)
 
--- those of some rows that are there
-abbrev pub present : {X : Type 0} → List (Option X) → List X
-present rows = filter_map (λ row. row) rows
+-- what is kept of some paragraphs, one after another
+abbrev pub joined_rows : {X : Type 0} → List (List X) → List X
+joined_rows kept = flat_map (λ rows. rows) kept
 
 -- what is kept of a Sources list, or the refusal for its first faulty paragraph
 unfoldable pub kept_sources : List ℕ → Result (List KeptSource) Refusal
@@ -90,7 +115,7 @@ kept_sources text = kept_behind Sources source_row_at 0 (paragraphs_in (lines_of
 -- what is kept of the Packages list of an architecture, or the refusal for its first faulty paragraph
 unfoldable pub kept_binaries : ArchWords → List ℕ → Result (List KeptBinary) Refusal
 kept_binaries arch text =
-    result_map_both present (λ refusal. refusal) (kept_behind Packages (binary_row_at arch) 0 (paragraphs_in (lines_of text)))
+    result_map_both joined_rows (λ refusal. refusal) (kept_behind Packages (binary_rows_at arch) 0 (paragraphs_in (lines_of text)))
 
 -- ---- what the rows list
 
@@ -131,11 +156,11 @@ build_cmp = on build_of built_cmp
 unfoldable pub built_in : List KeptBinary → List ℕ → Option Built
 built_in rows name = best_from built_cmp None (map build_of (filter (is_build_of name) rows))
 
--- the versions of the packages of a name, in their order
-unfoldable pub versions_in : List KeptBinary → List ℕ → List (List ℕ)
+-- in which versions a name is available, in their order; none where it is provided without one
+unfoldable pub versions_in : List KeptBinary → List ℕ → List Offer
 versions_in rows name = map (λ row. row.version) (filter (λ row. bytes_eq name row.name) rows)
 
--- every pair of a name and a version
+-- every name, with its version or without one
 unfoldable pub available_in : List KeptBinary → Pairs
 available_in rows = fold (λ pairs row. with_pair pairs row.name row.version) no_pairs rows
 

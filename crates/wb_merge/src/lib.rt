@@ -1,5 +1,5 @@
-//! What the archive lists for an architecture and what a report says, and what a merge and a report make of
-//! the records by it.
+//! What the archive lists for an architecture and what a report says, and what a merge and a report
+//! make of the records by it.
 #![tactic(auto)]
 
 mod changes;
@@ -25,4 +25,4 @@ pub use merge::{Change, counted};
 pub use record::{after, blank_record};
 pub use report::{ReportFault, ReportLine, ReportLines};
 pub use report_moves::{after_report, changed_by_report};
-pub use scratch::{binary_row, source_row};
+pub use scratch::{binary_rows, source_row};

@@ -21,8 +21,8 @@ use std::collections::BTreeMap;
 use std::marker::Model;
 use wb_states::Refusal;
 
-/// What the archive lists of a source package: the paragraph of its greatest version, and of equal ones the
-/// first (Debian Policy 5.6.12).
+/// What the archive lists of a source package: the paragraph of its greatest version, and of equal
+/// ones the first (Debian Policy 5.6.12).
 #[derive(Debug, Drop)]
 pub struct Listed {
     /// The source version.
@@ -31,13 +31,13 @@ pub struct Listed {
     pub priority: Text,
     /// The section, empty if the list gives none.
     pub section: Text,
-    /// Build-Depends and Build-Depends-Arch (Debian Policy 7.7), reduced for the architecture and printed;
-    /// none if one of them cannot be read or the text has more than 65536 bytes.
+    /// Build-Depends and Build-Depends-Arch (Debian Policy 7.7), reduced for the architecture and
+    /// printed; none if one of them cannot be read or the text has more than 65536 bytes.
     pub depends: Option<Text>,
 }
 
-/// The latest build of a source package on the architecture that the archive has: by its source version,
-/// then by the number of its binary-only rebuild.
+/// The latest build of a source package on the architecture that the archive has: by its source
+/// version, then by the number of its binary-only rebuild.
 #[derive(Debug, Drop)]
 pub struct Built {
     /// The source version that was built.
@@ -46,8 +46,8 @@ pub struct Built {
     pub number: u16,
 }
 
-/// What the archive lists for an architecture: its source packages, what was built of them, and which
-/// packages can be installed.
+/// What the archive lists for an architecture: its source packages, what was built of them, and
+/// which packages can be installed.
 #[derive(Drop)]
 pub struct Listing {
     pub(crate) listed: BTreeMap<Text, Listed>,
@@ -116,7 +116,7 @@ fn read_packages(
     while let Some(row) = next_binary(alloc, &mut paragraphs, passed)? {
         passed += 1;
         offer_build(&mut built, arch, &row)?;
-        offer_package(&mut available, arch, row)?;
+        offer_package(alloc, &mut available, arch, row)?;
     }
     Ok((built, available))
 }
@@ -124,12 +124,13 @@ fn read_packages(
 impl Listing {
     /// Reads a Sources list and the Packages list of the architecture, both uncompressed.
     ///
-    /// A source package is listed if its `Architecture` has a word that matches the architecture (Debian
-    /// Policy 5.6.8 and 11.1.1) and `Extra-Source-Only` is not `yes`. The error is `BadListing` for the
-    /// first paragraph of Sources that is no control data, lacks a field or has one that is malformed,
-    /// its fields taken in the order Package, Version, Architecture, Priority, Section; then for the first
-    /// of Packages, in the order Package, Version, Architecture, Source. `Memory` may come after a first line
-    /// that is a field: a list without paragraphs takes none.
+    /// A source package is listed if its `Architecture` has a word that matches the architecture
+    /// (Debian Policy 5.6.8 and 11.1.1) and `Extra-Source-Only` is not `yes`. The error is
+    /// `BadListing` for the first paragraph of Sources that is no control data, lacks a field or
+    /// has one that is malformed, its fields taken in the order Package, Version, Architecture,
+    /// Priority, Section; then for the first of Packages, in the order Package, Version,
+    /// Architecture, Source. `Memory` may come after a first line that is a field: a list without
+    /// paragraphs takes none.
     pub fn read(
         alloc: Global,
         sources: &[u8],

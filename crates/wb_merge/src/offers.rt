@@ -1,15 +1,18 @@
 //! What a row of the archive's lists adds to a listing.
 ghost use Rattle.std.specs.Prelude.{◌≡◌, IfOk, IfErr, OnOk};
+ghost use Rattle.std.specs.List.{fold};
 ghost use Rattle.std.specs.FinMap as map;
 ghost use Rattle.deb_relations.specs.declared.arch.ArchWords.{ArchWords as Arch};
 ghost use Rattle.deb_text.specs.Text.{text_cmp};
 ghost use Rattle.wb_states.specs.declared.refusal.Refusal.TheVariants.{Memory};
-ghost use Rattle.wb_merge.specs.Listing.{printed_for, joined, both_joined, depends_of, listed_as, listed_with, listed_cmp, built_as, built_cmp, is_better};
+ghost use Rattle.wb_merge.specs.Listing.{printed_for, joined, both_joined, depends_of, listed_as};
+ghost use Rattle.wb_merge.specs.Listing.{listed_with, listed_cmp, built_as, built_cmp, is_better};
+ghost use Rattle.wb_merge.specs.Listing.{with_offer};
 ghost use Rattle.wb_merge.specs.Offers.{with_listed, with_build, with_package};
 
 use crate::rows::{BinaryParagraph, SourceParagraph};
 use crate::{Built, Listed};
-use deb_relations::{ArchWords, Available, RELATIONS_LIMIT, RelationFault, Relations};
+use deb_relations::{ArchWords, Available, Provided, RELATIONS_LIMIT, RelationFault, Relations};
 use deb_text::Text;
 use deb_version::compare;
 use std::alloc::{AllocError, Global};
@@ -110,8 +113,8 @@ fn is_later_source(listed: &BTreeMap<Text, Listed>, row: &SourceParagraph) -> bo
     }
 }
 
-/// Offers a row of Sources to what is listed: of the versions of a source package the greatest is kept,
-/// and of equal ones the first.
+/// Offers a row of Sources to what is listed: of the versions of a source package the greatest is
+/// kept, and of equal ones the first.
 pub(crate) fn offer_source(
     alloc: Global,
     listed: &mut BTreeMap<Text, Listed>,
@@ -149,8 +152,8 @@ fn is_later_build(built: &BTreeMap<Text, Built>, row: &BinaryParagraph) -> bool
     }
 }
 
-/// Offers a row of Packages to what is built: of the builds of a source package the latest is kept, and of
-/// equal ones the first.
+/// Offers a row of Packages to what is built: of the builds of a source package the latest is kept,
+/// and of equal ones the first.
 pub(crate) fn offer_build(
     built: &mut BTreeMap<Text, Built>,
     arch: &ArchWords,
@@ -174,9 +177,21 @@ pub(crate) fn offer_build(
     Ok(())
 }
 
-/// Offers a row of Packages to what is available.
-#[tactic(auto, unfolding(crate::specs::Offers::with_package, crate::specs::Listing::is_installable_on))]
+/// Adds the names that a package provides to what is available.
+fn offer_provided(available: &mut Available, provided: Vec<Provided>) -> Result<(), AllocError>
+    ensures value { OnOk result (available.new ≡ fold with_offer available.old provided.items) }
+{
+    for given in provided {
+        let name = given.name;
+        available.provide(name.as_str(), given.version)?;
+    }
+    Ok(())
+}
+
+/// Offers a row of Packages to what is available: its package, and the names that this provides.
+#[tactic(auto, unfolding(crate::specs::Offers::with_package))]
 pub(crate) fn offer_package(
+    alloc: Global,
     available: &mut Available,
     arch: &ArchWords,
     row: BinaryParagraph,
@@ -184,9 +199,12 @@ pub(crate) fn offer_package(
     ensures value { OnOk result (available.new ≡ with_package arch.now available.old row) }
     ensures refused { IfErr result (λ refusal. refusal ≡ Memory) }
 {
-    if row.arch == arch.name || row.arch.as_str() == "all" {
-        let name = row.name;
-        available.add(name.as_str(), row.version)?;
+    if !row.is_installable_on(arch) {
+        return Ok(());
     }
+    let provided = Provided::all(alloc, row.provides.as_str())?;
+    let name = row.name;
+    available.add(name.as_str(), row.version)?;
+    offer_provided(available, provided)?;
     Ok(())
 }

@@ -1,5 +1,6 @@
 //! The rows that a merge reads from the archive's lists.
-ghost use Rattle.std.specs.Prelude.{◌≡◌, ◌≢◌, Ok, Err, Some, None, not, ◌&&◌, true, false, IsSome, IfOk, IfErr, OnOk, codes};
+ghost use Rattle.std.specs.Prelude.{◌≡◌, ◌≢◌, Ok, Err, Some, None, not, ◌&&◌, true, false, IsSome};
+ghost use Rattle.std.specs.Prelude.{IfOk, IfErr, OnOk, codes};
 ghost use Rattle.std.specs.List.{list_any};
 ghost use Rattle.deb_control.specs.declared.fault.ControlFaultKind.TheVariants.{Memory};
 ghost use Rattle.deb_text.specs.Lines.{words_in};
@@ -7,8 +8,9 @@ ghost use Rattle.deb_relations.specs.Arch.{arch_matches};
 ghost use Rattle.wb_states.specs.declared.refusal.ListingFault.TheVariants.{Control, BadValue};
 ghost use Rattle.wb_states.specs.declared.refusal.ListField.TheVariants.{Source};
 ghost use Rattle.deb_text.specs.Text.{is_empty_text};
-ghost use Rattle.wb_merge.specs.Rows.{value_named, is_source_text, optional_fault, source_fault, source_row_of, binary_row_of, with_source};
-ghost use Rattle.wb_merge.specs.Listing.{is_listed};
+ghost use Rattle.wb_merge.specs.Rows.{value_named, is_source_text, optional_fault, source_fault};
+ghost use Rattle.wb_merge.specs.Rows.{source_row_of, binary_row_of, with_source};
+ghost use Rattle.wb_merge.specs.Listing.{is_installable_on, is_listed};
 ghost use Rattle.wb_merge.specs.Scratch.{source_columns};
 
 use crate::fields::{architectures, label, package_name, package_version, text, value};
@@ -38,7 +40,8 @@ fn has_match(words: &str, arch: &ArchWords) -> bool
         .any(|part| is_match(part, arch))
 }
 
-/// Whether a source package of these architectures is listed for the architecture (Debian Policy 5.6.8).
+/// Whether a source package of these architectures is listed for the architecture (Debian Policy
+/// 5.6.8).
 pub(crate) fn is_listed(archs: &Text, is_extra: bool, arch: &ArchWords) -> bool
     ensures { result ≡ (list_any (λ word. arch_matches word arch.now) (words_in archs.now) && not is_extra) }
 {
@@ -147,6 +150,7 @@ pub(crate) struct BinaryParagraph {
     pub(crate) source: Option<Text>,
     pub(crate) source_version: Option<Version>,
     pub(crate) number: u16,
+    pub(crate) provides: Text,
 }
 
 impl Model for BinaryParagraph {
@@ -162,6 +166,7 @@ impl Model for BinaryParagraph {
       source = unwrap_or row.source row.name;
       source_version = unwrap_or row.source_version row.version;
       number = row.number;
+      provides = row.provides;
     } };
 }
 
@@ -173,8 +178,10 @@ fn with_source(
     version: Version,
     arch: Text,
     source: &str,
+    provides: Text,
 ) -> Result<BinaryParagraph, ListingFault>
-    ensures value { IfOk result (λ row. row ≡ with_source name version arch (Some source.now)) }
+    ensures value { IfOk result (λ row.
+        row ≡ record (with_source name version arch (Some source.now)) { provides = provides }) }
     ensures ok { OnOk result (is_source_text source.now ≡ true) }
     ensures bad { IfErr result (λ fault. fault ≢ Control Memory
         → is_source_text source.now ≡ false) }
@@ -195,6 +202,7 @@ fn with_source(
         source: Some(source),
         source_version,
         number,
+        provides,
     })
 }
 
@@ -216,8 +224,10 @@ impl BinaryParagraph {
         let name = package_name(alloc, fields)?;
         let version = package_version(alloc, fields)?;
         let arch = architectures(alloc, fields)?;
-        match value(alloc, fields, "Source")? {
-            Some(source) => with_source(alloc, name, version, arch, source.as_str()),
+        let source = value(alloc, fields, "Source")?;
+        let provides = text(alloc, fields, "Provides")?;
+        match source {
+            Some(source) => with_source(alloc, name, version, arch, source.as_str(), provides),
             None => Ok(BinaryParagraph {
                 name,
                 version,
@@ -225,8 +235,18 @@ impl BinaryParagraph {
                 source: None,
                 source_version: None,
                 number: 0,
+                provides,
             }),
         }
+    }
+
+    /// Whether the row is a package that can be installed on the architecture (Debian Policy
+    /// 5.6.8).
+    #[tactic(auto, unfolding(crate::specs::Listing::is_installable_on))]
+    pub(crate) fn is_installable_on(&self, arch: &ArchWords) -> bool
+        ensures { result ≡ is_installable_on arch.now self.now }
+    {
+        self.arch == arch.name || self.arch.as_str() == "all"
     }
 
     /// The source package that it was built from.

@@ -18,7 +18,7 @@ use Rattle.wb_states.specs.Refusals.{is_of_store}
 use Rattle.wb_step.specs.Arguments.{Import, Lists, Lines, arguments_of}
 use Rattle.wb_step.specs.Carries.{Carries}
 use Rattle.wb_step.specs.Checks.{first_refusal}
-use Rattle.wb_step.specs.Locality.{LooksAlike}
+use Rattle.wb_step.specs.Locality.{IsSingle, LooksAlike}
 use Rattle.wb_step.specs.Named.{part_named}
 use Rattle.wb_step.specs.Step.{Outcome, assignment_reply, outcome, reply_by, reply_to, step}
 use Rattle.wb_step.specs.Targets.{again_of, target_of}
@@ -121,7 +121,8 @@ counts_at machine = record { handed = machine.handed; accepted = machine.accepte
 
 -- ---- the whole command
 
-module _ (command : Command) (machine part : Machine) (consistent : IsConsistent machine) (single : (arguments_of command).imports ≡ None) (is : part ≡ part_named machine command) where
+module _ (command : Command) (machine part : Machine) (consistent : IsConsistent machine) (single : IsSingle command)
+    (is : part ≡ part_named machine command) where
   -- the part looks to the command like the whole office
   part_looks_alike : LooksAlike command part machine
   part_looks_alike = subst (λ p. LooksAlike command p machine) (sym is) (part_alike (part_named machine command) machine (part_of_named machine command consistent) command consistent (part_has_all_named machine command consistent single))
@@ -152,7 +153,7 @@ module _ (command : Command) (machine part : Machine) (consistent : IsConsistent
     }
 
 module _ {S : Type 0} (g : Ghosts S) (command : Command) (old new : Held S) (part after : Machine) (key : Option Key)
-    (single : (arguments_of command).imports ≡ None) where
+    (single : IsSingle command) where
   -- a refusal changes nothing
   pub refused_in : (refusal : Refusal) → old ≡ new → Carries part after command (Err refusal) → Answers g (IsNamed command part key) command old new (Err (Refused refusal))
   refused_in refusal same carries = record {
@@ -234,7 +235,7 @@ module _ {S : Type 0} (g : Ghosts S) (command : Command) (old mid new : Held S) 
     elim left.1 [
       | inl s ↦ inl (s.0, s.1, s.2, stays_then g old mid s.0 same s.3, s.4, s.5)
       | inr (inl m) ↦ inr (inl (m.0, m.1, m.2, stays_then g old mid m.0 same m.3, m.4, m.5, m.6))
-      | inr (inr r) ↦ inr (inr (r.0, r.1, r.2, r.3, stays_then g old mid r.0 same r.4, r.5, r.6, r.7))
+      | inr (inr b) ↦ inr (inr (b.0, b.1, b.2, stays_then g old mid b.0 same b.3, b.4, b.5))
     ],
   )
 

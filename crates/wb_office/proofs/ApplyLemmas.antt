@@ -390,7 +390,7 @@ not_taken_back : {S : Type 0} (g : Ghosts S) (machine : Machine) (command : Comm
 not_taken_back g machine command old new e (back, inl kept) = inr kept.5.1
 not_taken_back g machine command old new e (back, inr (inl merged)) =
     merge_not_taken_back g (AreTextsDone merged.1.sources merged.1.parts) merged.2 machine merged.0 new e merged.6
-not_taken_back g machine command old new e (back, inr (inr reported)) = inr reported.7.1
+not_taken_back g machine command old new e (back, inr (inr batch)) = inr batch.5.1
 
 -- an office that must be closed is over such a connection
 pub must_not_go_on : {S : Type 0} (g : Ghosts S) (at new : Held S) (is_closed : Bool) (failure : Failure)

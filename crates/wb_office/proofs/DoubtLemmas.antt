@@ -7,7 +7,7 @@ use Rattle.wb_states.specs.declared.refusal.Refusal.TheVariants.{OtherVersion, W
 use Rattle.wb_states.specs.declared.refusal.Refusal.TheVariants.{AfterAhead, AlreadyThere, BadName, BadVersion}
 use Rattle.wb_states.specs.declared.refusal.Refusal.TheVariants.{BadRelations, BadNumber, BadListing, BadReport}
 use Rattle.wb_states.specs.declared.refusal.Refusal.TheVariants.{TextTooLong, Spent, RepeatedArch, Closed, Store}
-use Rattle.wb_states.specs.declared.refusal.Refusal.TheVariants.{Memory}
+use Rattle.wb_states.specs.declared.refusal.Refusal.TheVariants.{StillHeld, Memory}
 use Rattle.wb_states.specs.declared.store_fault.StoreFault.{StoreFault}
 use Rattle.wb_states.specs.Machine.{Machine}
 use Rattle.wb_step.specs.Step.{step}
@@ -61,3 +61,4 @@ module _ (Failed : StoreFault → Type 0) where
   one_stands machine (command ∷ commands) (Err TextTooLong ∷ outcomes) one other sure is also = one_stands machine commands outcomes one other sure.1 is.1 also.1
   one_stands machine (command ∷ commands) (Err Spent ∷ outcomes) one other sure is also = one_stands machine commands outcomes one other sure.1 is.1 also.1
   one_stands machine (command ∷ commands) (Err RepeatedArch ∷ outcomes) one other sure is also = one_stands machine commands outcomes one other sure.1 is.1 also.1
+  one_stands machine (command ∷ commands) (Err StillHeld ∷ outcomes) one other sure is also = one_stands machine commands outcomes one other sure.1 is.1 also.1

@@ -9,15 +9,15 @@ use Rattle.wb_states.specs.declared.arch.OsCpu.{OsCpu}
 use Rattle.wb_states.specs.declared.command.AddArch.{AddArch}
 use Rattle.wb_states.specs.declared.command.Command.{Command}
 use Rattle.wb_states.specs.declared.command.Command.TheVariants as of
+use Rattle.wb_states.specs.declared.command.RemoveArch.{RemoveArch}
 use Rattle.wb_states.specs.declared.command.Report.{Report}
 use Rattle.wb_states.specs.declared.counts.Counts.{Counts}
 use Rattle.wb_states.specs.declared.counts.StateCounts.{StateCounts}
 use Rattle.wb_states.specs.declared.refusal.Refusal.{Refusal}
 use Rattle.wb_states.specs.Machine.{Machine}
 use Rattle.wb_states.specs.Queue.{Entry}
-use Rattle.wb_step.specs.Arguments.{arguments_of}
 use Rattle.wb_step.specs.Checks.{first_refusal}
-use Rattle.wb_step.specs.Locality.{archs_after}
+use Rattle.wb_step.specs.Locality.{IsSingle, archs_after}
 use Rattle.wb_step.specs.Step.{outcome, step}
 use Rattle.wb_step.specs.Targets.{again_of}
 use Rattle.wb_step.proofs.LocalityLemmas.{steps_change}
@@ -38,8 +38,10 @@ copied_next xs at x y within is same copy new made before =
 pub copied_all : {X : Type 0} (xs copy : List X) (at : ℕ) → length xs ≤ at → copy ++ drop at xs ≡ xs → copy ≡ xs
 copied_all xs copy at past is = sym (append-nil copy) ∙ ap (λ l. copy ++ l) (sym (drop_all at xs past)) ∙ is
 
--- a command that imports nothing, and leaves the architectures if it is accepted, leaves them
-single_leaves : (command : Command) (machine : Machine) → (arguments_of command).imports ≡ None → archs_after command machine.archs ≡ machine.archs
+-- a command that imports nothing and takes no architecture away, and leaves the architectures if it is accepted, leaves
+-- them
+single_leaves : (command : Command) (machine : Machine) → IsSingle command
+    → archs_after command machine.archs ≡ machine.archs
     → (step machine command).1.archs ≡ machine.archs
 unfolding step
 single_leaves command machine single same = by_answer (first_refusal machine command) (again_of machine command) refl refl
@@ -58,22 +60,26 @@ report_leaves machine report = at (first_refusal machine (of.Report report)) whe
   at None = refl
   at (Some refusal) = refl
 
--- a command that adds no architecture leaves them
-archs_stay : (command : Command) (machine : Machine) → ((fields : AddArch) → command ≢ of.AddArch fields) → (step machine command).1.archs ≡ machine.archs
-archs_stay (of.AddArch fields) machine other = absurd (other fields refl)
-archs_stay (of.Merge fields) machine other = (merge_joined machine fields.sources fields.parts).archs
-archs_stay (of.Report fields) machine other = report_leaves machine fields
-archs_stay command machine other = single_leaves command machine refl refl
+-- a command that neither adds an architecture nor takes one away leaves them
+archs_stay : (command : Command) (machine : Machine) → ((fields : AddArch) → command ≢ of.AddArch fields)
+    → ((fields : RemoveArch) → command ≢ of.RemoveArch fields) → (step machine command).1.archs ≡ machine.archs
+archs_stay (of.AddArch fields) machine other stays = absurd (other fields refl)
+archs_stay (of.RemoveArch fields) machine other stays = absurd (stays fields refl)
+archs_stay (of.Merge fields) machine other stays = (merge_joined machine fields.sources fields.parts).archs
+archs_stay (of.Report fields) machine other stays = report_leaves machine fields
+archs_stay command machine other stays = single_leaves command machine (record { imports = refl; keeps = refl }) refl
 
 -- what is known is known after such a command, with the counts then
 pub knows_after : (command : Command) (machine : Machine) (known : Known) (counts : Counts)
     (summaries : BTreeMap (List ℕ) StateCounts) → ((fields : AddArch) → command ≢ of.AddArch fields)
-    → Knows machine known → AreCountsOf (step machine command).1 counts
+    → ((fields : RemoveArch) → command ≢ of.RemoveArch fields) → Knows machine known
+    → AreCountsOf (step machine command).1 counts
     → AreSummaries (step machine command).1 summaries
     → Knows (step machine command).1 (record { counts = counts; archs = known.archs; summaries = summaries })
-knows_after command machine known counts summaries other knows after are = record {
+knows_after command machine known counts summaries other stays knows after are = record {
   counts = after;
-  archs = subst (λ (archs : map.FinMap text_cmp OsCpu). IfSome known.archs (λ those. those.items ≡ map.entries archs)) (sym (archs_stay command machine other)) knows.archs;
+  archs = subst (λ (archs : map.FinMap text_cmp OsCpu). IfSome known.archs (λ those. those.items ≡ map.entries archs))
+      (sym (archs_stay command machine other stays)) knows.archs;
   summaries = are;
 }
 

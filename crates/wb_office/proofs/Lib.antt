@@ -2,6 +2,9 @@ pub mod AnswerLemmas
 pub mod ApplyLemmas
 pub mod AskLemmas
 pub mod AskedLemmas
+pub mod BatchCarryLemmas
+pub mod BatchLemmas
+pub mod BatchWriteLemmas
 pub mod CarryLemmas
 pub mod CountLemmas
 pub mod DoubtLemmas
@@ -16,9 +19,8 @@ pub mod MergeAnswerLemmas
 pub mod MergeCarryLemmas
 pub mod MergeInLemmas
 pub mod PartListLemmas
+pub mod RemovalLemmas
 pub mod ReportLemmas
-pub mod RowsCarryLemmas
-pub mod RowsWriteLemmas
 pub mod SessionLemmas
 pub mod SoughtLemmas
 pub mod StandingLemmas

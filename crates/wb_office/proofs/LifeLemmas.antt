@@ -9,7 +9,7 @@ use Rattle.wb_states.specs.declared.refusal.Refusal.TheVariants.{OtherVersion, W
 use Rattle.wb_states.specs.declared.refusal.Refusal.TheVariants.{AfterAhead, AlreadyThere, BadName, BadVersion}
 use Rattle.wb_states.specs.declared.refusal.Refusal.TheVariants.{BadRelations, BadNumber, BadListing, BadReport}
 use Rattle.wb_states.specs.declared.refusal.Refusal.TheVariants.{TextTooLong, Spent, RepeatedArch, Closed, Store}
-use Rattle.wb_states.specs.declared.refusal.Refusal.TheVariants.{Memory}
+use Rattle.wb_states.specs.declared.refusal.Refusal.TheVariants.{StillHeld, Memory}
 use Rattle.wb_states.specs.declared.store_fault.StoreFault.{StoreFault}
 use Rattle.wb_states.specs.Machine.{Machine}
 use Rattle.wb_states.specs.Refusals.{IsOfMachine}
@@ -87,6 +87,7 @@ refused_stands Failed machine command commands (BadReport line) outcomes standin
 refused_stands Failed machine command commands TextTooLong outcomes standing on other is later = (is, later)
 refused_stands Failed machine command commands Spent outcomes standing on other is later = (is, later)
 refused_stands Failed machine command commands RepeatedArch outcomes standing on other is later = (is, later)
+refused_stands Failed machine command commands StillHeld outcomes standing on other is later = (is, later)
 refused_stands Failed machine command commands Memory outcomes standing on other is later = absurd (other refl)
 refused_stands Failed machine command commands Closed outcomes standing on other is later = absurd (cc)
 refused_stands Failed machine command commands (Store fault) outcomes standing on other is later = absurd (cc)

@@ -49,10 +49,8 @@ use Rattle.wb_office.specs.declared.answer.Answered.{Answered}
 use Rattle.wb_office.specs.declared.answer.Failure.{Failure}
 use Rattle.wb_office.specs.declared.answer.Failure.TheVariants.{Refused, Unread, Uncommitted}
 use Rattle.wb_office.specs.declared.carry.CarryError.{CarryError}
-use Rattle.wb_office.specs.Answers.{Answers, IsLeft, IsUncommitted, KeepsReport}
-use Rattle.wb_office.specs.Carried.{LeavesAs}
-use Rattle.wb_office.specs.Rows.{CarriesRows, IsAccepted, IsReportIn, NotesRow, row_from, rows_written}
-use Rattle.wb_store.proofs.StaysLemmas.{was_clean}
+use Rattle.wb_office.specs.Batches.{Puts, IsBatchIn, batch_written}
+use Rattle.wb_office.specs.Rows.{IsAccepted, NotesRow, row_from}
 use Rattle.wb_office.proofs.WrittenRowLemmas.{left_of}
 
 -- ---- the step
@@ -66,124 +64,36 @@ reported_step : (machine : Machine) (report : Report) → first_refusal machine 
 unfolding step
 reported_step machine report good = ap (λ (first : Option Refusal). outcome first None machine (of.Report report)) good
 
-pub report_reply : {machine : Machine} {report : Report} {rows : List Entry} {counts : Counts} → IsReportIn machine report rows counts
+pub report_reply : {machine : Machine} {report : Report} {rows : List Entry} {counts : Counts}
+    → IsBatchIn machine (of.Report report) (Puts rows) counts
     → (step machine (of.Report report)).0 ≡ Ok (Reported counts.accepted (length rows))
 unfolding number_reported
 report_reply {machine = machine} {report = report} is =
-    ap (λ (o : Outcome). o.0) (reported_step machine report is.good) ∙ (λ i. Ok (Reported (sym is.counts_are.1 i) (length (sym is.rows_are i))))
+    ap (λ (o : Outcome). o.0) (reported_step machine report is.good)
+    ∙ (λ i. Ok (Reported (sym is.counts_are.1 i) (length (sym is.batch_is i))))
 
-pub report_whole : {machine : Machine} {report : Report} {rows : List Entry} {counts : Counts} → IsReportIn machine report rows counts
-    → rows_written rows counts machine ≡ (step machine (of.Report report)).1
+pub report_whole : {machine : Machine} {report : Report} {rows : List Entry} {counts : Counts}
+    → IsBatchIn machine (of.Report report) (Puts rows) counts
+    → batch_written (Puts rows) counts machine ≡ (step machine (of.Report report)).1
 report_whole {machine = machine} {report = report} is =
     (λ i. record machine {
-      records = with_rows machine.records (is.rows_are i);
+      records = with_rows machine.records (is.batch_is i);
       handed = is.counts_are.0 i;
       accepted = is.counts_are.1 i;
     })
     ∙ ap (λ records. record machine { records = records; accepted = machine.accepted + 1 }) (reported-rows machine.records report.arch (lines_said report.text))
     ∙ sym (ap (λ (o : Outcome). o.1) (reported_step machine report is.good))
 
--- ---- it is kept, or not
-
-module _ {S : Type 0} {g : Ghosts S} {rows : List Entry} {counts : Counts} {old new : Held S} where
-  -- what a report changed is committed
-  pub report_kept : {A B : Type 0} {x : A} {y : B} → CarriesRows {A = A} g rows counts old new (Ok x) → (report : Report) → KeepsReport {A = B} g report rows counts old new (Ok y)
-  report_kept carries report = record {
-    was_clean = was_clean (state g old) (state g new) carries.survives;
-    limit = carries.survives.limit;
-    ok = λ clean machine settled is. subst (λ (m : Machine). IsSettled m (state g new)) (report_whole is) (carries.ok clean machine settled);
-    err = λ clean machine settled is. tt;
-    others = λ clean machine settled is. carries.others clean machine settled;
-    of_step = tt;
-  }
-
-  -- its transaction was not committed
-  pub report_not_committed : {A B : Type 0} {e : CarryError} → CarriesRows {A = A} g rows counts old new (Err e) → (report : Report)
-      → KeepsReport {A = B} g report rows counts old new (Err (Uncommitted e))
-  report_not_committed {e = e} carries report = record {
-    was_clean = was_clean (state g old) (state g new) carries.survives;
-    limit = carries.survives.limit;
-    ok = λ clean machine settled is. tt;
-    err = λ clean machine settled is. (
-      subst (λ (m : Machine). LeavesAs machine m (state g new) e) (report_whole is) (carries.err clean machine settled),
-      inr (inr (old, report, rows, counts, inl refl, refl, is, carries.cause clean machine settled)),
-    );
-    others = λ clean machine settled is. tt;
-    of_step = tt;
-  }
-
--- ---- the answer
-
-module _ {S : Type 0} (g : Ghosts S) (counts : Counts) (report : Report) (old : Held S) where
-  -- a report that is refused changes nothing
-  pub report_refused : (Given : Machine → Type 0) (refusal : Refusal) → ((machine : Machine) → Given machine → first_refusal machine (of.Report report) ≡ Some refusal)
-      → IsOfMachine refusal → is_of_store refusal ≡ false → Answers g Given (of.Report report) old old (Err (Refused refusal))
-  unfolding step
-  report_refused Given refusal refused other kind = record {
-    was_clean = λ clean. clean;
-    limit = refl;
-    ok = λ clean machine consistent settled given. tt;
-    err = λ clean machine consistent settled given. (λ _. step_refused machine (refused machine given), (λ none. absurd (other none), settled));
-    others = λ clean machine consistent settled given. tt;
-    of_step = kind;
-    utf8 = tt;
-  }
-    where
-      step_refused : (machine : Machine) → first_refusal machine (of.Report report) ≡ Some refusal → (step machine (of.Report report)).0 ≡ Err refusal
-      step_refused machine is = ap (λ (first : Option Refusal). (outcome first None machine (of.Report report)).0) is
-
--- the records that differ were found
-abbrev AreFound : Report → List Entry → Machine → Type 0
-AreFound report rows machine = rows ≡ rows_reported machine.records report.arch (lines_said report.text)
-
 -- an accepted report whose rows were found
-pub is_report : (counts after : Counts) (report : Report) (rows : List Entry) (machine : Machine) → (after.handed ≡ counts.handed) × (after.accepted ≡ counts.accepted + 1)
-    → IsAccepted counts report machine → AreFound report rows machine → IsReportIn machine report rows after
-is_report counts after report rows machine raised given found = record {
+pub report_is : (counts after : Counts) (report : Report) (rows : List Entry) (machine : Machine)
+    → (after.handed ≡ counts.handed) × (after.accepted ≡ counts.accepted + 1)
+    → IsAccepted counts report machine → rows ≡ rows_reported machine.records report.arch (lines_said report.text)
+    → IsBatchIn machine (of.Report report) (Puts rows) after
+report_is counts after report rows machine raised given found = record {
   good = given.1;
-  rows_are = found;
+  batch_is = found;
   counts_are = (raised.0 ∙ given.0.0, raised.1 ∙ ap (λ n. n + 1) given.0.1);
 }
-
--- what was found was kept
-pub report_done : {S A : Type 0} {g : Ghosts S} {x : A} (counts after : Counts) (report : Report) (rows : List Entry) (mid new : Held S)
-    → (after.handed ≡ counts.handed) × (after.accepted ≡ counts.accepted + 1) → HasUtf8Texts (of.Report report)
-    → KeepsReport {A = A} g report rows after mid new (Ok x)
-    → Answers g (λ machine. IsAccepted counts report machine × AreFound report rows machine) (of.Report report) mid new
-    (Ok (record { reply = Reported after.accepted (length rows); counts = after }))
-report_done counts after report rows mid new raised utf8 keeps = record {
-  was_clean = keeps.was_clean;
-  limit = keeps.limit;
-  ok = λ clean machine consistent settled given.
-      let is = is_report counts after report rows machine raised given.0 given.1 in (
-        report_reply is,
-        keeps.ok clean machine settled is,
-        (ap (λ (m : Machine). m.handed) (report_whole is), ap (λ (m : Machine). m.accepted) (report_whole is)),
-      );
-  err = λ clean machine consistent settled given. tt;
-  others = λ clean machine consistent settled given. keeps.others clean machine settled (is_report counts after report rows machine raised given.0 given.1);
-  of_step = tt;
-  utf8 = utf8;
-}
-
--- what was found was not kept
-pub report_not_kept : {S A : Type 0} {g : Ghosts S} (counts after : Counts) (report : Report) (rows : List Entry) (mid new : Held S) (failure : Failure)
-    → (after.handed ≡ counts.handed) × (after.accepted ≡ counts.accepted + 1) → KeepsReport {A = A} g report rows after mid new (Err failure)
-    → Answers g (λ machine. IsAccepted counts report machine × AreFound report rows machine) (of.Report report) mid new (Err failure)
-report_not_kept {g = g} counts after report rows mid new failure raised keeps = record {
-  was_clean = keeps.was_clean;
-  limit = keeps.limit;
-  ok = λ clean machine consistent settled given. tt;
-  err = λ clean machine consistent settled given. left_by machine failure (keeps.err clean machine settled (is_report counts after report rows machine raised given.0 given.1));
-  others = λ clean machine consistent settled given. tt;
-  of_step = keeps.of_step;
-  utf8 = tt;
-}
-  where
-    left_by : (machine : Machine) (failure : Failure) → IsUncommitted g machine (of.Report report) mid new failure → IsLeft g machine (of.Report report) mid new failure
-    left_by machine (Refused refusal) none = absurd none
-    left_by machine (Unread e) none = absurd none
-    left_by machine (Uncommitted e) left = left
 
 -- ---- the architectures that are known
 
@@ -301,19 +211,6 @@ report_noted was notes start changes machine report good begun between made =
     (notes-arch was notes start changes report.arch machine.records (records_reported machine.records report.arch lines) begun between
     (λ key other. reported-others machine.records report.arch lines key
     (false_from_ne_true (bytes_eq key.0 report.arch) (λ e. other (bytes_eq-is key.0 report.arch e)))) made)
-
--- what holds of a wider choice of offices
-pub answers_given : {S : Type 0} {g : Ghosts S} {First Given : Machine → Type 0} {command : Command} {old new : Held S} {r : Result Answered Failure}
-    → ((machine : Machine) → First machine → Given machine) → Answers g Given command old new r → Answers g First command old new r
-answers_given gives answers = record {
-  was_clean = answers.was_clean;
-  limit = answers.limit;
-  ok = λ clean machine consistent settled first. answers.ok clean machine consistent settled (gives machine first);
-  err = λ clean machine consistent settled first. answers.err clean machine consistent settled (gives machine first);
-  others = λ clean machine consistent settled first. answers.others clean machine consistent settled (gives machine first);
-  of_step = answers.of_step;
-  utf8 = answers.utf8;
-}
 
 -- a source package that no line names
 pub unnamed_from : (arch : List ℕ) (lines : Lines) (source : List ℕ) (found : Option Record) → map.get lines source ≡ None → None ≡ row_from arch lines source found

@@ -14,6 +14,8 @@ use Rattle.wb_states.specs.declared.command.AddBuilder.{AddBuilder}
 use Rattle.wb_states.specs.declared.command.Command.{Command}
 use Rattle.wb_states.specs.declared.command.Command.TheVariants as of
 use Rattle.wb_states.specs.declared.command.Enter.{Enter}
+use Rattle.wb_states.specs.declared.command.Forget.{Forget}
+use Rattle.wb_states.specs.declared.command.RemoveBuilder.{RemoveBuilder}
 use Rattle.wb_states.specs.declared.moves.Move.{Move}
 use Rattle.wb_states.specs.declared.record.Record.{Record}
 use Rattle.wb_states.specs.declared.refusal.Refusal.{Refusal}
@@ -21,9 +23,10 @@ use Rattle.wb_states.specs.declared.reply.Reply.{Reply}
 use Rattle.wb_states.specs.Holds.{take_of}
 use Rattle.wb_states.specs.Machine.{Machine, Key, arch_words}
 use Rattle.wb_states.specs.Queue.{Entry}
-use Rattle.wb_states.specs.Subject.{Subject, Nothing, Source, Taken, Head, subject_of}
+use Rattle.wb_states.specs.Subject.{Subject, Nothing, Source, Taken, Head, Held, subject_of}
 use Rattle.wb_step.specs.Checks.{first_refusal, is_there_already, source_in, source_named}
-use Rattle.wb_step.specs.Locality.{moved, entry_put, with_entry, archs_after, builders_after, handed_after, changed}
+use Rattle.wb_step.specs.Locality.{moved, entry_put, key_gone, with_entry, without_entry, archs_after, builders_after}
+use Rattle.wb_step.specs.Locality.{handed_after, changed}
 use Rattle.wb_step.specs.Step.{Outcome, assignment_of, outcome, step}
 use Rattle.wb_step.specs.Targets.{again_of, first_named, record_named, transition_of, move_of_command, target_of}
 use Rattle.wb_step.proofs.LocalityLemmas.{same_answer, same_entry, steps_change}
@@ -93,11 +96,15 @@ found_key machine Nothing key is = is
 found_key machine (Source arch source) key is = named_key machine arch source key is
 found_key machine (Taken take_number) key is = is
 found_key machine (Head next) key is = is
+found_key machine (Held builder) key is = is
 
 -- the record that a command puts has the key of the command
 pub put_key : (command : Command) (machine : Machine) (entry : Entry) → entry_put machine command ≡ Some entry → key_put machine command ≡ Some entry.0
 put_key (of.AddArch fields) machine entry is = cc
 put_key (of.AddBuilder fields) machine entry is = cc
+put_key (of.RemoveArch fields) machine entry is = cc
+put_key (of.RemoveBuilder fields) machine entry is = cc
+put_key (of.Forget fields) machine entry is = cc
 put_key (of.Enter fields) machine entry is = ap key_of is
 put_key (of.BuildPriority fields) machine entry is =
     keyed (fields.arch, fields.source) (λ (current : Record). record current { build_priority = fields.value }) (map.get machine.records (fields.arch, fields.source)) entry is
@@ -133,6 +140,9 @@ pub put_there : (command : Command) → ((fields : Enter) → command ≢ of.Ent
     → IsSome (map.get machine.records entry.0)
 put_there (of.AddArch fields) no_enter machine entry is = cc
 put_there (of.AddBuilder fields) no_enter machine entry is = cc
+put_there (of.RemoveArch fields) no_enter machine entry is = cc
+put_there (of.RemoveBuilder fields) no_enter machine entry is = cc
+put_there (of.Forget fields) no_enter machine entry is = cc
 put_there (of.Enter fields) no_enter machine entry is = absurd (no_enter fields refl)
 put_there (of.BuildPriority fields) no_enter machine entry is =
     keyed_there machine (fields.arch, fields.source) (λ (current : Record). record current { build_priority = fields.value }) entry is
@@ -151,19 +161,29 @@ not_found machine Nothing key none is = no_key key is
 not_found machine (Source arch source) key none is = (is, no_record machine arch source key is none)
 not_found machine (Taken take_number) key none is = no_key key (sym (ap key_of none) ∙ is)
 not_found machine (Head next) key none is = no_key key (sym (ap key_of none) ∙ is)
+not_found machine (Held builder) key none is = no_key key is
 
--- if a command with a key puts no record, it names a source package that has none
-pub nothing_put : (command : Command) (machine : Machine) (key : Key) → entry_put machine command ≡ None → key_put machine command ≡ Some key
+-- a command is not one that forgets a record
+abbrev KeepsRecords : Command → Type 0
+KeepsRecords command = (fields : Forget) → command ≢ of.Forget fields
+
+-- if a command with a key puts no record, and forgets none, it names a source package that has none
+pub nothing_put : (command : Command) → KeepsRecords command → (machine : Machine) (key : Key)
+    → entry_put machine command ≡ None → key_put machine command ≡ Some key
     → (source_named command ≡ Some key) × (map.get machine.records key ≡ None)
-nothing_put (of.AddArch fields) machine key none is = no_key key is
-nothing_put (of.AddBuilder fields) machine key none is = no_key key is
-nothing_put (of.Enter fields) machine key none is = absurd (something none)
-nothing_put (of.BuildPriority fields) machine key none is =
+nothing_put (of.AddArch fields) keeps machine key none is = no_key key is
+nothing_put (of.AddBuilder fields) keeps machine key none is = no_key key is
+nothing_put (of.RemoveArch fields) keeps machine key none is = no_key key is
+nothing_put (of.RemoveBuilder fields) keeps machine key none is = no_key key is
+nothing_put (of.Forget fields) keeps machine key none is = absurd (keeps fields refl)
+nothing_put (of.Enter fields) keeps machine key none is = absurd (something none)
+nothing_put (of.BuildPriority fields) keeps machine key none is =
     let found = unkeyed (fields.arch, fields.source) (λ (current : Record). record current { build_priority = fields.value }) (map.get machine.records (fields.arch, fields.source)) none in
     (is, ap (option_and_then (map.get machine.records)) (sym is) ∙ found)
-nothing_put (of.Merge fields) machine key none is = no_key key is
-nothing_put (of.Report fields) machine key none is = no_key key is
-nothing_put command machine key none is = not_found machine (subject_of command) key (no_target machine command (λ words. something) none) is
+nothing_put (of.Merge fields) keeps machine key none is = no_key key is
+nothing_put (of.Report fields) keeps machine key none is = no_key key is
+nothing_put command keeps machine key none is = not_found machine (subject_of command) key
+    (no_target machine command (λ words. something) none) is
 
 -- what is put at a key is found there
 inserted : (records : map.FinMap pair_cmp Record) (key : Key) (current : Record) → map.get (map.insert records key current) key ≡ Some current
@@ -184,6 +204,11 @@ new_outcome None None machine command reply fresh is = (refl, refl)
 answered_anew : (machine : Machine) (command : Command) (reply : Reply) → IsFresh reply → (step machine command).0 ≡ Ok reply → (first_refusal machine command ≡ None) × (again_of machine command ≡ None)
 unfolding step
 answered_anew machine command reply fresh is = new_outcome (first_refusal machine command) (again_of machine command) machine command reply fresh is
+
+-- it takes no record away
+none_gone : (command : Command) → KeepsRecords command → key_gone command ≡ None
+none_gone (of.Forget fields) keeps = absurd (keeps fields refl)
+none_gone _ keeps = refl
 
 module _ {whole after : Machine} {key : Option Key} (command : Command) (h : IsStepOf whole command key after) where
   part_answer : (step h.part command).0 ≡ Ok h.reply
@@ -218,32 +243,39 @@ module _ {whole after : Machine} {key : Option Key} (command : Command) (h : IsS
   before_is : before_counts command whole ≡ record (changed whole command) { handed = whole.handed; accepted = whole.accepted }
   before_is i = record (whole_is i) { handed = whole.handed; accepted = whole.accepted }
 
-  part_records : after.records ≡ with_entry (entry_put whole command) h.part.records
-  part_records = ap (λ (m : Machine). m.records) part_is ∙ ap (λ put. with_entry put h.part.records) (same_entry command h.part whole h.alike)
+  part_records : KeepsRecords command → after.records ≡ with_entry (entry_put whole command) h.part.records
+  part_records keeps =
+      ap (λ (m : Machine). m.records) part_is ∙ ap (λ gone.
+      without_entry gone (with_entry (entry_put h.part command) h.part.records)) (none_gone command keeps)
+      ∙ ap (λ put. with_entry put h.part.records) (same_entry command h.part whole h.alike)
 
   -- the part has the record that the command puts at its key
-  found_is : found_at after key ≡ entry_put whole command
-  found_is = by_cases (entry_put whole command) (key_put whole command) refl refl
+  found_is : KeepsRecords command → found_at after key ≡ entry_put whole command
+  found_is keeps = by_cases (entry_put whole command) (key_put whole command) refl refl
     where
       by_cases : (put : Option Entry) (asked : Option Key) → entry_put whole command ≡ put → key_put whole command ≡ asked → found_at after key ≡ put
       by_cases (Some entry) asked put_is asked_is =
-          let records : after.records ≡ map.insert h.part.records entry.0 entry.1 = part_records ∙ ap (λ put. with_entry put h.part.records) put_is in
+          let records : after.records ≡ map.insert h.part.records entry.0 entry.1 = part_records keeps
+          ∙ ap (λ put. with_entry put h.part.records) put_is in
           ap (found_at after) (h.key_is ∙ put_key command whole entry put_is)
           ∙ ap (λ (found : Option Record). option_map (λ (current : Record). (entry.0, current)) found) (ap (λ (r : map.FinMap pair_cmp Record). map.get r entry.0) records ∙ inserted h.part.records entry.0 entry.1)
       by_cases None None put_is asked_is = ap (found_at after) (h.key_is ∙ asked_is)
       by_cases None (Some k) put_is asked_is =
-          let records : after.records ≡ h.part.records = part_records ∙ ap (λ put. with_entry put h.part.records) put_is in
-          let nothing = nothing_put command whole k put_is asked_is in
+          let records : after.records ≡ h.part.records = part_records keeps
+          ∙ ap (λ put. with_entry put h.part.records) put_is in
+          let nothing = nothing_put command keeps whole k put_is asked_is in
           ap (found_at after) (h.key_is ∙ asked_is)
           ∙ ap (λ (found : Option Record). option_map (λ (current : Record). (k, current)) found) (ap (λ (r : map.FinMap pair_cmp Record). map.get r k) records ∙ h.alike.source k nothing.0 ∙ nothing.1)
 
-  -- a command other than `enter` puts the record that the part has at its key in place of one that is there
-  pub found_there : ((fields : Enter) → command ≢ of.Enter fields) → IsThere whole (found_at after key)
-  found_there no_enter = by_found (found_at after key) refl
+  -- a command other than `enter` and `forget` puts the record that the part has at its key in place of one that is
+  -- there
+  pub found_there : ((fields : Enter) → command ≢ of.Enter fields) → KeepsRecords command
+      → IsThere whole (found_at after key)
+  found_there no_enter keeps = by_found (found_at after key) refl
     where
       by_found : (found : Option Entry) → found_at after key ≡ found → IsThere whole found
       by_found None is = tt
-      by_found (Some entry) is = put_there command no_enter whole entry (sym found_is ∙ is)
+      by_found (Some entry) is = put_there command no_enter whole entry (sym (found_is keeps) ∙ is)
 
 absent : {X : Type 0} (found : Option X) → is_some found ≡ false → found ≡ None
 absent None none = refl
@@ -262,17 +294,37 @@ module _ {whole after : Machine} {key : Option Key} where
       × (record whole { builders = set.insert whole.builders (fields.name, fields.arch) } ≡ before_counts (of.AddBuilder fields) whole)
   adds_builder fields h = (is_new (of.AddBuilder fields) h, sym (before_is (of.AddBuilder fields) h))
 
--- a command that adds neither leaves the architectures and the builders
+  -- nothing else is written where a builder is taken from an architecture
+  pub removes_builder : (fields : RemoveBuilder) → IsStepOf whole (of.RemoveBuilder fields) key after
+      → record whole { builders = set.remove whole.builders (fields.name, fields.arch) } ≡ before_counts
+      (of.RemoveBuilder fields) whole
+  removes_builder fields h = sym (before_is (of.RemoveBuilder fields) h)
+
+  -- nothing else is written where a record is forgotten
+  pub forgets : (fields : Forget) → IsStepOf whole (of.Forget fields) key after
+      → record whole { records = map.remove whole.records (fields.arch, fields.source) } ≡ before_counts
+      (of.Forget fields) whole
+  forgets fields h = sym (before_is (of.Forget fields) h)
+
+-- a command that adds neither and takes no builder away leaves the architectures and the builders
 module _ (machine : Machine) where
   adds_neither : (command : Command) → ((fields : AddArch) → command ≢ of.AddArch fields) → ((fields : AddBuilder) → command ≢ of.AddBuilder fields)
-      → (archs_after command machine.archs ≡ machine.archs) × (builders_after command machine.builders ≡ machine.builders)
-  adds_neither (of.AddArch fields) no_arch no_builder = absurd (no_arch fields refl)
-  adds_neither (of.AddBuilder fields) no_arch no_builder = absurd (no_builder fields refl)
-  adds_neither _ no_arch no_builder = (refl, refl)
+      → ((fields : RemoveBuilder) → command ≢ of.RemoveBuilder fields)
+      → (archs_after command machine.archs ≡ machine.archs) ×
+      (builders_after command machine.builders ≡ machine.builders)
+  adds_neither (of.AddArch fields) no_arch no_builder stays = absurd (no_arch fields refl)
+  adds_neither (of.AddBuilder fields) no_arch no_builder stays = absurd (no_builder fields refl)
+  adds_neither (of.RemoveBuilder fields) no_arch no_builder stays = absurd (stays fields refl)
+  adds_neither _ no_arch no_builder stays = (refl, refl)
 
 -- any other command puts the record that the part has at its key
 pub puts : {whole after : Machine} {key : Option Key} (command : Command) → ((fields : AddArch) → command ≢ of.AddArch fields) → ((fields : AddBuilder) → command ≢ of.AddBuilder fields)
+    → ((fields : RemoveBuilder) → command ≢ of.RemoveBuilder fields) → KeepsRecords command
     → IsStepOf whole command key after → record whole { records = with_entry (found_at after key) whole.records } ≡ before_counts command whole
-puts {whole = whole} {after = after} {key = key} command no_arch no_builder h =
-    let neither = adds_neither whole command no_arch no_builder in
-    (λ i. record whole { records = with_entry (found_is command h i) whole.records; archs = sym neither.0 i; builders = sym neither.1 i }) ∙ sym (before_is command h)
+puts {whole = whole} {after = after} {key = key} command no_arch no_builder stays keeps h =
+    let neither = adds_neither whole command no_arch no_builder stays in
+    (λ i. record whole {
+      records = without_entry (sym (none_gone command keeps) i) (with_entry (found_is command h keeps i) whole.records);
+      archs = sym neither.0 i;
+      builders = sym neither.1 i;
+    }) ∙ sym (before_is command h)

@@ -1,5 +1,5 @@
 -- How many records of an architecture are in each state, before a command and after it.
-use Rattle.std.proofs.Common.{◌≡◌, ◌∙◌, refl, sym, ap, ap₂, subst, ℕ, Bool, true, false, cond, ◌&&◌, List, [], ◌∷◌}
+use Rattle.std.proofs.Common.{◌≡◌, ◌∙◌, refl, sym, ap, ap₂, subst, ℕ, Bool, true, false, cond, not, ◌&&◌, List, [], ◌∷◌}
 use Rattle.std.proofs.Common.{Option, Some, None, IfSome, length}
 use Rattle.std.specs.Prelude.{filter}
 use Rattle.std.specs.BTreeMap as tree
@@ -10,6 +10,7 @@ use Rattle.std.specs.FinMap.Entries.{by_order}
 use Rattle.std.proofs.lemmas.Bool.{both_ways}
 use Rattle.std.proofs.lemmas.Slice.Eq.{bytes_eq-Decides}
 use Rattle.std.specs.Cmp.{eq_by_cmp_equiv}
+use Rattle.std.specs.Ordering.{eq_by_cmp}
 use Rattle.std.specs.Map.{lookup}
 use Rattle.std.specs.Option.{option_map}
 use Rattle.std.specs.Str.{bytes_eq}
@@ -28,16 +29,16 @@ use Rattle.wb_states.specs.declared.state.State.TheVariants.{BdUninstallable, Fa
 use Rattle.wb_states.specs.Lookups.{counts_of, is_in, number_in}
 use Rattle.wb_states.specs.Machine.{Key, Machine}
 use Rattle.wb_states.specs.Queue.{Entry, head_of}
-use Rattle.wb_states.specs.Subject.{Subject, Nothing, Source, Taken, Head, subject_of}
+use Rattle.wb_states.specs.Subject.{Subject, Nothing, Source, Taken, Head, Held, subject_of}
 use Rattle.wb_states.proofs.QueueLemmas.{head_of-waits}
-use Rattle.wb_step.specs.Arguments.{arguments_of}
 use Rattle.wb_step.specs.Checks.{first_refusal}
-use Rattle.wb_step.specs.Locality.{changed, entry_put, with_entry}
+use Rattle.wb_step.specs.Locality.{IsSingle, changed, entry_put, key_gone, with_entry, without_entry}
 use Rattle.wb_step.specs.Step.{outcome, step}
 use Rattle.wb_step.specs.Targets.{again_of, first_named}
 use Rattle.wb_step.proofs.LocalityLemmas.{steps_change}
 use Rattle.wb_office.specs.Keys.{key_at, key_of}
 use Rattle.wb_office.specs.Standing.{AreSummaries}
+use Rattle.wb_store.proofs.MapLemmas.{entries-remove}
 use Rattle.wb_office.proofs.StepOfLemmas.{put_key}
 
 -- ---- names
@@ -125,6 +126,44 @@ counts-put machine after None arch is other = counts_by machine after arch
 counts-put machine after (Some entry) arch is other = counts_by machine after arch
     (λ state. number-put machine after entry.0 entry.1 arch state is other)
 
+-- ---- a record is taken away
+
+-- entries of a key that does not pass are none of those that pass
+passes-left : (p : Entry → Bool) (k : Key) → ((x : Record) → p (k, x) ≡ false)
+    → (entries : List Entry) → filter p (filter (λ e. not (eq_by_cmp pair_cmp k e.0)) entries) ≡ filter p entries
+passes-left p k none [] = refl
+passes-left p k none (e ∷ es) =
+    let rest = passes-left p k none es in
+    let left = filter (λ (x : Entry). not (eq_by_cmp pair_cmp k x.0)) es in
+    (elim (eq_by_cmp pair_cmp k e.0) as (λ b. eq_by_cmp pair_cmp k e.0 ≡ b
+    → filter p (cond (not b) (e ∷ left) left) ≡ cond (p e) (e ∷ filter p es) (filter p es)) [
+      | true ↦ λ tie.
+          let at : p e ≡ false = ap (λ key. p (key, e.1)) (sym (eq_by_cmp-same pair_cmp-same k e.0 tie)) ∙ none e.1 in
+          rest ∙ sym (ap (λ b. cond b (e ∷ filter p es) (filter p es)) at)
+      | false ↦ λ _. ap (λ those. cond (p e) (e ∷ those) those) rest
+    ]) refl
+
+number-left : (machine after : Machine) (key : Key) (arch : List ℕ) (state : State)
+    → after.records ≡ map.remove machine.records key → ¬ (key.0 ≡ arch)
+    → number_in after arch state ≡ number_in machine arch state
+unfolding number_in
+number-left machine after key arch state is other =
+    ap (λ (records : map.FinMap pair_cmp Record). length (filter (is_in arch state) (map.entries records))) is
+    ∙ ap (λ entries. length (filter (is_in arch state) entries))
+    (entries-remove pair_cmp_total pair_cmp-same machine.records key)
+    ∙ ap length (passes-left (is_in arch state) key (λ x. is_no_other key.0 arch _ other) (map.entries machine.records))
+
+-- as many after one of another is taken away too, or none
+counts-changed : (machine after : Machine) (put : Option Entry) (gone : Option Key) (arch : List ℕ)
+    → after.records ≡ without_entry gone (with_entry put machine.records)
+    → IfSome put (λ entry. ¬ (entry.0.0 ≡ arch)) → IfSome gone (λ key. ¬ (key.0 ≡ arch))
+    → counts_of after arch ≡ counts_of machine arch
+counts-changed machine after put None arch is other left = counts-put machine after put arch is other
+counts-changed machine after put (Some key) arch is other left =
+    let between : Machine = record machine { records = with_entry put machine.records } in
+    counts_by between after arch (λ state. number-left between after key arch state is left)
+    ∙ counts-put machine between put arch refl other
+
 -- ---- a command that names an architecture
 
 -- the architecture that is named
@@ -133,6 +172,7 @@ arch_named Nothing = None
 arch_named (Source arch source) = Some arch
 arch_named (Taken take_number) = None
 arch_named (Head next) = Some next.arch
+arch_named (Held builder) = None
 
 -- the architecture of a key
 abbrev pub arch_of : Option Key → Option (List ℕ)
@@ -143,6 +183,7 @@ key-arch : (machine : Machine) (subject : Subject) (name : List ℕ) (key : Key)
     → key_at subject (first_named machine subject) ≡ Some key → key.0 ≡ name
 key-arch machine Nothing name key named is = cc
 key-arch machine (Taken take_number) name key named is = cc
+key-arch machine (Held builder) name key named is = cc
 key-arch machine (Source arch source) name key named is =
     sym (same_some (sym named ∙ ap arch_of is))
 key-arch machine (Head next) name key named is = by_head (head_of machine next.arch) refl is
@@ -152,12 +193,18 @@ key-arch machine (Head next) name key named is = by_head (head_of machine next.a
     by_head (Some entry) head_is some =
         same_some (sym (ap arch_of some) ∙ ap Some (head_of-waits machine next.arch entry head_is).1 ∙ named)
 
--- a command that names one imports nothing
-imports-none : (command : Command) (name : List ℕ) → arch_named (subject_of command) ≡ Some name
-    → (arguments_of command).imports ≡ None
-imports-none (of.Merge fields) name named = cc
-imports-none (of.Report fields) name named = cc
-imports-none command name named = refl
+-- a command that names one imports nothing, and takes no architecture away
+single-named : (command : Command) (name : List ℕ) → arch_named (subject_of command) ≡ Some name → IsSingle command
+single-named (of.RemoveArch fields) name named = cc
+single-named (of.Merge fields) name named = cc
+single-named (of.Report fields) name named = cc
+single-named command name named = record { imports = refl; keeps = refl }
+
+-- the record that it takes away is of that architecture
+gone-arch : (command : Command) (name : List ℕ) (key : Key) → arch_named (subject_of command) ≡ Some name
+    → key_gone command ≡ Some key → key.0 ≡ name
+gone-arch (of.Forget fields) name key named is = sym (same_some (sym named ∙ ap arch_of is))
+gone-arch _ name key named is = cc
 
 -- a command leaves how many records of another architecture than it names are in each state
 counts_stay : (command : Command) (machine : Machine) (name arch : List ℕ)
@@ -172,6 +219,10 @@ counts_stay command machine name arch named other = by_answer (first_refusal mac
     put_elsewhere (Some entry) is = λ here. other
         (sym (key-arch machine (subject_of command) name entry.0 named (put_key command machine entry is)) ∙ here)
 
+    gone_elsewhere : (gone : Option Key) → key_gone command ≡ gone → IfSome gone (λ key. ¬ (key.0 ≡ arch))
+    gone_elsewhere None is = tt
+    gone_elsewhere (Some key) is = λ here. other (sym (gone-arch command name key named is) ∙ here)
+
     by_answer : (refused : Option Refusal) (again : Option Entry) → first_refusal machine command ≡ refused
         → again_of machine command ≡ again
         → counts_of (outcome (first_refusal machine command) (again_of machine command) machine command).1 arch
@@ -179,9 +230,9 @@ counts_stay command machine name arch named other = by_answer (first_refusal mac
     by_answer (Some refusal) again is told = ap₂ (λ r a. counts_of (outcome r a machine command).1 arch) is told
     by_answer None (Some entry) is told = ap₂ (λ r a. counts_of (outcome r a machine command).1 arch) is told
     by_answer None None is told =
-        ap (λ m. counts_of m arch) (steps_change command machine (imports-none command name named) is told)
-        ∙ counts-put machine (changed machine command) (entry_put machine command) arch refl
-        (put_elsewhere (entry_put machine command) refl)
+        ap (λ m. counts_of m arch) (steps_change command machine (single-named command name named) is told)
+        ∙ counts-changed machine (changed machine command) (entry_put machine command) (key_gone command) arch refl
+        (put_elsewhere (entry_put machine command) refl) (gone_elsewhere (key_gone command) refl)
 
 -- ---- what is known
 

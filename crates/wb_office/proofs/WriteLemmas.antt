@@ -79,7 +79,11 @@ pub record_written : (command : Command) (key : Option Key) (after : Machine) (i
     → IsWriteOf command key after it
 record_written command key after is_new same (write.PutsRecord entry) is = (is_new, same, is)
 record_written command key after is_new same (write.ReplacesRecord entry) is = (is_new, same, is)
-record_written command key after is_new same (write.RemovesRecord other) is = (is_new, same, is)
+record_written command key after true same (write.RemovesRecord other) none = absurd none
+record_written command key after false same (write.RemovesRecord other) none = absurd none
+record_written command key after true same (write.RemovesBuilder pair) none = absurd none
+record_written command key after false same (write.RemovesBuilder pair) none = absurd none
+record_written command key after is_new same (write.RemovesArch name) is = (is_new, same, is)
 record_written command key after is_new same (write.SetsCounts handed accepted) is = (is_new, same, is)
 record_written command key after true same (write.AddsArch arch) none = absurd none
 record_written command key after false same (write.AddsArch arch) none = absurd none

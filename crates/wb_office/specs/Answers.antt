@@ -8,7 +8,6 @@ use Rattle.wb_states.specs.declared.arch.OsCpu.{OsCpu}
 use Rattle.wb_states.specs.declared.command.Command.{Command}
 use Rattle.wb_states.specs.declared.command.Command.TheVariants as of
 use Rattle.wb_states.specs.declared.command.Merge.{Merge}
-use Rattle.wb_states.specs.declared.command.Report.{Report}
 use Rattle.wb_states.specs.declared.counts.Counts.{Counts}
 use Rattle.wb_states.specs.declared.reply.PartReply.{PartReply}
 use Rattle.wb_states.specs.declared.reply.Reply.{Reply}
@@ -35,7 +34,7 @@ use Rattle.wb_office.specs.Keys.{key_put}
 use Rattle.wb_office.specs.Kinds.{IsOfStep}
 use Rattle.wb_office.specs.MergeCarried.{MergeEndsFor}
 use Rattle.wb_office.specs.MergeLists.{AreTextsDone, counted}
-use Rattle.wb_office.specs.Rows.{IsReportIn, RowsEndFor}
+use Rattle.wb_office.specs.Batches.{Batch, BatchEndsFor, IsBatchIn}
 use Rattle.wb_store.specs.Opening.{AreCountsOf}
 use Rattle.wb_office.specs.Standing.{Knows}
 
@@ -71,11 +70,11 @@ FailsToKeepMerge {S} g machine command old new failure =
     (at : Held S) × (merge : Merge) × (counts : Counts) × StaysAs g old at × (command ≡ of.Merge merge) × AreCountsOf machine counts
     × MergeEndsFor g (AreTextsDone merge.sources merge.parts) counts machine at new failure
 
--- the command is a report, and what it changed was written in such a transaction
-abbrev pub FailsToKeepReport : {S : Type 0} → Ghosts S → Machine → Command → Held S → Held S → CarryError → Type 0
-FailsToKeepReport {S} g machine command old new failure =
-    (at : Held S) × (report : Report) × (rows : List Entry) × (counts : Counts) × StaysAs g old at × (command ≡ of.Report report)
-    × IsReportIn machine report rows counts × RowsEndFor g rows counts machine at new failure
+-- the command changes many rows, which were written in such a transaction
+abbrev pub FailsToKeepBatch : {S : Type 0} → Ghosts S → Machine → Command → Held S → Held S → CarryError → Type 0
+FailsToKeepBatch {S} g machine command old new failure =
+    (at : Held S) × (batch : Batch) × (counts : Counts) × StaysAs g old at × IsBatchIn machine command batch counts ×
+    BatchEndsFor g batch counts machine at new failure
 
 -- what a command changed was not committed, for this reason
 abbrev pub IsUncommitted : {S : Type 0} → Ghosts S → Machine → Command → Held S → Held S → Failure → Type 0
@@ -84,7 +83,7 @@ IsUncommitted g machine command old new (Unread fault) = ⊥
 IsUncommitted g machine command old new (Uncommitted failure) =
     LeavesAs machine (step machine command).1 (state g new) failure
     × (FailsToKeepStep g machine command old new failure
-    ⊎ (FailsToKeepMerge g machine command old new failure ⊎ FailsToKeepReport g machine command old new failure))
+    ⊎ (FailsToKeepMerge g machine command old new failure ⊎ FailsToKeepBatch g machine command old new failure))
 
 -- why a command is not carried out, and where the office is left: it is refused, or a look-up failed, and nothing is
 -- changed; or what it changed was not committed, and the office is as it was, or, if the commit is in doubt, as it was
@@ -108,16 +107,20 @@ pub record KeepsStep {S A : Type 0} (g : Ghosts S) (command : Command) (key : Op
       → OnOk result (KeepsOthers (state g old).now (state g new).now)
   pub of_step : IfErr result IsOfStep
 
--- what a report changed, written to the tables of the whole office; if it succeeds, the tables of others keep their
+-- many changes of a command, written to the tables of the whole office; if it succeeds, the tables of others keep their
 -- rows
-pub record KeepsReport {S A : Type 0} (g : Ghosts S) (report : Report) (rows : List Entry) (counts : Counts) (old new : Held S) (result : Result A Failure) : Type 0 where
+pub record KeepsBatch {S A : Type 0} (g : Ghosts S) (command : Command) (batch : Batch) (counts : Counts)
+    (old new : Held S) (result : Result A Failure) : Type 0 where
   pub was_clean : HasCleanDisk (state g new) → HasCleanDisk (state g old)
   pub limit : new.step_limit ≡ old.step_limit
-  pub ok : HasCleanDisk (state g new) → (machine : Machine) → IsSettled machine (state g old) → IsReportIn machine report rows counts
-      → OnOk result (IsSettled (step machine (of.Report report)).1 (state g new))
-  pub err : HasCleanDisk (state g new) → (machine : Machine) → IsSettled machine (state g old) → IsReportIn machine report rows counts
-      → IfErr result (IsUncommitted g machine (of.Report report) old new)
-  pub others : HasCleanDisk (state g new) → (machine : Machine) → IsSettled machine (state g old) → IsReportIn machine report rows counts
+  pub ok : HasCleanDisk (state g new) → (machine : Machine) → IsSettled machine (state g old)
+      → IsBatchIn machine command batch counts
+      → OnOk result (IsSettled (step machine command).1 (state g new))
+  pub err : HasCleanDisk (state g new) → (machine : Machine) → IsSettled machine (state g old)
+      → IsBatchIn machine command batch counts
+      → IfErr result (IsUncommitted g machine command old new)
+  pub others : HasCleanDisk (state g new) → (machine : Machine) → IsSettled machine (state g old)
+      → IsBatchIn machine command batch counts
       → OnOk result (KeepsOthers (state g old).now (state g new).now)
   pub of_step : IfErr result IsOfStep
 

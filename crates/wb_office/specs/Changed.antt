@@ -1,5 +1,6 @@
 -- What an accepted command changed in a part of the office, written to the tables of the whole office.
-use Rattle.std.specs.Prelude.{◌≡◌, ◌≢◌, ◌⊎◌, ◌↔◌, ℕ, ◌≤◌, Bool, true, false, Option, Some, Result, Ok, IsTrue, IfErr}
+use Rattle.std.specs.Prelude.{◌≡◌, ◌≢◌, ◌⊎◌, ◌↔◌, ℕ, ◌≤◌, Bool, true, false, List, Option, Some, Result, Ok, IsTrue}
+use Rattle.std.specs.Prelude.{IfErr}
 use Rattle.std.specs.Prelude.{IfSome, OnOk, OnErr, IsSome, option_and_then}
 use Rattle.std.specs.FinMap as map
 use Rattle.std.specs.Option.{option_map}
@@ -86,10 +87,14 @@ IsWriteOfRecord false found (write.ReplacesRecord entry) = found ≡ Some entry
 IsWriteOfRecord is_new found _ = ⊥
 
 -- the write is that of what an accepted command changed but for the counts: it adds the architecture or the builder of
--- the command, or writes the record that the part of the office has at the key, which is new if the command entered it
+-- the command, takes its builder from an architecture, takes out the record that it forgets, or writes the record that
+-- the part of the office has at the key, which is new if the command entered it
 abbrev pub IsWriteOf : Command → Option Key → Machine → OfficeWrite → Type 0
 IsWriteOf command key after (write.AddsArch arch) = command ≡ form.AddArch arch.0 arch.1.os arch.1.cpu
 IsWriteOf command key after (write.AddsBuilder pair) = command ≡ form.AddBuilder pair.0 pair.1
+IsWriteOf command key after (write.RemovesBuilder pair) = command ≡ form.RemoveBuilder pair.0 pair.1
+IsWriteOf command key after (write.RemovesRecord gone) = (version : List ℕ) ×
+    (command ≡ form.Forget gone.0 gone.1 version)
 IsWriteOf command key after it = (is_new : Bool) × (IsTrue is_new ↔ IsEntering command) × IsWriteOfRecord is_new (found_at after key) it
 
 -- ---- a part of a change

@@ -4,7 +4,7 @@ use Rattle.std.specs.Option.{option_map}
 use Rattle.wb_states.specs.declared.command.Command.{Command}
 use Rattle.wb_states.specs.Machine.{Machine, Key}
 use Rattle.wb_states.specs.Queue.{Entry}
-use Rattle.wb_states.specs.Subject.{Subject, Nothing, Source, Taken, Head, subject_of}
+use Rattle.wb_states.specs.Subject.{Subject, Nothing, Source, Taken, Head, Held, subject_of}
 use Rattle.wb_step.specs.Targets.{first_named}
 
 -- the key of what was found
@@ -17,6 +17,7 @@ key_at Nothing first = None
 key_at (Source arch source) first = Some (arch, source)
 key_at (Taken take_number) first = key_of first
 key_at (Head next) first = key_of first
+key_at (Held builder) first = None
 
 -- the key of the record that a command other than a merge puts if it is accepted: it names the key, or the record is at
 -- the head of a queue, or held under a take number

@@ -3,6 +3,7 @@ pub mod Applies
 pub mod AppliesLists
 pub mod Asked
 pub mod Asks
+pub mod Batches
 pub mod Carried
 pub mod Changed
 pub mod Failed
@@ -17,6 +18,7 @@ pub mod MergeCarried
 pub mod MergeLists
 pub mod Offices
 pub mod PartLists
+pub mod Removing
 pub mod RowWrites
 pub mod Rows
 pub mod Sought

@@ -6,8 +6,8 @@ ghost use Rattle.sqlite.specs.Held.{state};
 ghost use Rattle.sqlite.specs.State.{HasCleanDisk};
 ghost use Rattle.wb_states.specs.Machine.{IsConsistent, Machine};
 ghost use Rattle.wb_merge.specs.Changes.{NotesChanges};
-ghost use Rattle.wb_step.specs.Arguments.{arguments_of};
 ghost use Rattle.wb_step.specs.Checks.{text_refusal};
+ghost use Rattle.wb_step.specs.Locality.{IsSingle};
 ghost use Rattle.wb_step.specs.Step.{step};
 ghost use Rattle.wb_step.specs.TextChecks.{report_lines};
 ghost use Rattle.wb_step.specs.Utf8.{HasUtf8Texts};
@@ -19,6 +19,7 @@ use crate::carry::{CarryError, carry};
 use crate::known::{Known, find_archs, learn};
 use crate::merging::answer_merge;
 use crate::named::{Named, named_part};
+use crate::removing::answer_removal;
 use crate::reporting::answer_report;
 use deb_text::Text;
 use sqlite::Alter;
@@ -104,6 +105,10 @@ fn answer_of<S: Alter + Drop>(
         Command::Report(report) => {
             answer_report(alloc, store, counts, &archs, report, &lines.unwrap(), notes)
         }
+        Command::RemoveArch(removal) => {
+            *notes = None;
+            answer_removal(store, counts, &archs, removal)
+        }
         _ => {
             *notes = None;
             answer_one(alloc, store, counts, archs, command)
@@ -111,7 +116,7 @@ fn answer_of<S: Alter + Drop>(
     }
 }
 
-/// Carries out a command that imports nothing.
+/// Carries out a command that imports nothing and takes no architecture away.
 fn answer_one<S: Alter + Drop>(
     alloc: Global,
     store: &mut Store<S>,
@@ -119,7 +124,7 @@ fn answer_one<S: Alter + Drop>(
     archs: Vec<(Text, OsCpu)>,
     command: &Command,
 ) -> Result<Answered, Failure>
-    requires single { (arguments_of command.now).imports ≡ None }
+    requires single { IsSingle command.now }
     ensures answers { Answers S.Store (AreOf counts archs.items) command.now store.old store.new result }
 {
     match named_part(alloc, store, counts, archs, command) {
@@ -135,7 +140,7 @@ fn answer_in<S: Alter + Drop>(
     command: &Command,
     named: Named,
 ) -> Result<Answered, Failure>
-    requires single { (arguments_of command.now).imports ≡ None }
+    requires single { IsSingle command.now }
     ensures answers { Answers S.Store (IsNamed command.now named.part named.key) command.now store.old store.new result }
 {
     let Named { mut part, key } = named;

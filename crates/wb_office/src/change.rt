@@ -1,5 +1,6 @@
 //! What an accepted command changed in a part of the office, written to the tables of the whole
-//! office: one record, one architecture or one builder, and the two counts.
+//! office: one record, one architecture or one pair of a builder and an architecture, and the two
+//! counts.
 
 ghost use Rattle.std.specs.Prelude.{◌≡◌, false, None, Some, IfErr, IfOk, OnOk};
 ghost use Rattle.std.specs.FinMap as map;
@@ -54,7 +55,7 @@ pub(crate) fn counts_after(after: &OfficePart) -> Result<Counts, StoreFault>
     Ok(counts)
 }
 
-/// Writes what the command added or put, but not the counts.
+/// Writes what the command added, put or took away, but not the counts.
 fn write_subject<S: Alter + Drop>(
     writing: &mut Writing<'_, S>,
     command: &Command,
@@ -68,7 +69,9 @@ fn write_subject<S: Alter + Drop>(
 {
     match command {
         Command::AddArch(command) => write_arch(writing, command),
-        Command::AddBuilder(command) => { writing.add_builder(&command.name, &command.arch) }
+        Command::AddBuilder(command) => writing.add_builder(&command.name, &command.arch),
+        Command::RemoveBuilder(command) => writing.remove_builder(&command.name, &command.arch),
+        Command::Forget(command) => writing.remove(&command.arch, &command.source),
         _ => match key {
             Some((arch, source)) => {
                 let is_new = matches!(command, Command::Enter(_));

@@ -17,11 +17,12 @@ use wb_store::Store;
 
 // Each command needs these, and two statements a command are some 30 of 250 microseconds. No other
 // program changes them while the office is open. The counts are taken over once a command is
-// committed; the architectures are read by the first command after an opening and after `add-arch`,
-// and a merge changes none. To count the records of an architecture in each state takes 7
-// milliseconds for 16,000, which monitors and pages ask for again and again: the numbers are kept
-// until a command may have changed them. That all this is so at the state is part of what it means
-// that an office stands at it (`Knows`). The records too would take the memory of the whole office.
+// committed; the architectures are read by the first command after an opening and after one that
+// adds or removes one, and a merge changes none. To count the records of an architecture in each
+// state takes 7 milliseconds for 16,000, which monitors and pages ask for again and again: the
+// numbers are kept until a command may have changed them. That all this is so at the state is part
+// of what it means that an office stands at it (`Knows`). The records too would take the memory of
+// the whole office.
 /// What an office knows of its tables.
 #[derive(Drop)]
 pub(crate) struct Known {
@@ -117,7 +118,7 @@ fn forget_changed(summaries: &mut BTreeMap<Text, StateCounts>, command: &Command
         Subject::Head(next) => {
             summaries.remove(&next.arch);
         }
-        Subject::Nothing | Subject::Taken(_) => summaries.clear(),
+        Subject::Nothing | Subject::Taken(_) | Subject::Held(_) => summaries.clear(),
     }
 }
 
@@ -128,7 +129,7 @@ pub(crate) fn learn(known: &mut Known, command: &Command, counts: Counts)
 {
     forget_changed(&mut known.summaries, command);
     known.counts = counts;
-    if let Command::AddArch(_) = command {
+    if let Command::AddArch(_) | Command::RemoveArch(_) = command {
         known.archs = None;
     }
 }

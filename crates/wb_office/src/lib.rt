@@ -4,8 +4,10 @@
 #![tactic(auto)]
 
 mod answer;
+mod batch;
 mod carry;
 mod change;
+mod checks;
 mod commands;
 mod history;
 mod known;
@@ -19,6 +21,7 @@ mod office;
 mod part_lists;
 mod power;
 mod query;
+mod removing;
 mod reporting;
 mod rows;
 

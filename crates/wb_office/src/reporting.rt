@@ -3,14 +3,12 @@
 //! command were tested.
 ghost use Rattle.std.specs.Prelude.{◌≡◌, ◌++◌, bytes_eq, nat_le, false, None, Some, map as each};
 ghost use Rattle.std.specs.Prelude.{option_and_then, option_map, IfOk, IfErr, OnOk};
-ghost use Rattle.std.specs.List.{list_any};
 ghost use Rattle.std.specs.FinMap as finite;
 ghost use Rattle.std.specs.Map.Iter.{deref};
 ghost use Rattle.std.specs.Str.{IsUtf8};
 ghost use Rattle.sqlite.specs.Held.{state};
 ghost use Rattle.sqlite.specs.State.{HasCleanDisk};
 ghost use Rattle.wb_states.specs.declared.command.Command.TheVariants as of;
-ghost use Rattle.wb_states.specs.declared.command.Report.{Report as AnyReport};
 ghost use Rattle.wb_states.specs.declared.store_fault.StoreFault.TheVariants.{Memory};
 ghost use Rattle.wb_states.specs.Limits.{count_limit};
 ghost use Rattle.wb_states.specs.Lookups.{entry_of};
@@ -22,18 +20,15 @@ ghost use Rattle.wb_merge.specs.Reported.{rows_reported};
 ghost use Rattle.wb_step.specs.Checks.{first_refusal, text_refusal};
 ghost use Rattle.wb_step.specs.Named.{listed};
 ghost use Rattle.wb_step.specs.Step.{lines_said, step};
-ghost use Rattle.wb_states.specs.declared.store_fault.Table.TheVariants.{Office};
-ghost use Rattle.wb_store.specs.Faults.{IsUnfit};
 ghost use Rattle.wb_store.specs.Finds.{Finds};
 ghost use Rattle.wb_store.specs.Settled.{IsSettled};
-ghost use Rattle.wb_office.specs.Answers.{AreOf, Answers, KeepsReport};
-ghost use Rattle.wb_office.specs.Rows.{CarriesRows, HaveFit, IsAccepted, NotesRow, WritesRows};
-ghost use Rattle.wb_office.specs.Rows.{row_from};
+ghost use Rattle.wb_office.specs.Answers.{AreOf, Answers};
+ghost use Rattle.wb_office.specs.Rows.{IsAccepted, NotesRow, row_from};
 
 use crate::answer::{Answered, Failure};
-use crate::carry::{CarryError, failure};
+use crate::batch::{Batch, keep_batch};
+use crate::checks::{has_arch, is_spent};
 use crate::named::keyed;
-use crate::rows::put_all;
 use deb_text::Text;
 use sqlite::Alter;
 use std::alloc::{AllocError, Global};
@@ -43,24 +38,8 @@ use wb_merge::{
     note_changes,
 };
 use wb_states::command::Report;
-use wb_states::{
-    COUNT_LIMIT, Counts, KeyedRecord, OsCpu, Record, Refusal, Reply, StoreFault, Table,
-};
-use wb_store::{Store, Writing, unfit};
-
-/// Whether the architecture is among these.
-fn has_arch(archs: &[(Text, OsCpu)], arch: &Text) -> bool
-    ensures value { result ≡ list_any (λ entry. bytes_eq arch.now entry.0) archs.now }
-{
-    archs.iter().any(|entry| arch == &entry.0)
-}
-
-/// Whether no more command can be counted.
-fn is_spent(counts: Counts) -> bool
-    ensures value { result ≡ nat_le count_limit counts.accepted }
-{
-    COUNT_LIMIT <= counts.accepted
-}
+use wb_states::{Counts, KeyedRecord, OsCpu, Record, Refusal, Reply, StoreFault};
+use wb_store::Store;
 
 /// Tests a report whose texts are not refused against the counts and the architectures of an
 /// office.
@@ -190,77 +169,6 @@ fn find_rows<S: Alter + Drop>(
     Ok(rows)
 }
 
-/// Tests that both counts fit.
-fn check_counts(counts: Counts) -> Result<(), StoreFault>
-    ensures ok { OnOk result (HaveFit counts) }
-    ensures err { IfErr result (IsUnfit Office (HaveFit counts)) }
-{
-    if counts.handed > COUNT_LIMIT || counts.accepted > COUNT_LIMIT {
-        return Err(unfit(Table::Office));
-    }
-    Ok(())
-}
-
-/// Writes these records and counts in a transaction that is under way. The fault is that of the
-/// statement that failed, or `Damaged` with row 0 of the office or of the records if a count or a
-/// take number is above [`COUNT_LIMIT`]; the caller then takes the transaction back (this project's
-/// own).
-fn write_rows<S: Alter + Drop>(
-    writing: &mut Writing<'_, S>,
-    rows: &[KeyedRecord],
-    counts: Counts,
-) -> Result<(), StoreFault>
-    ensures same_reference { writing.new.store.ghost_name ≡ writing.old.store.ghost_name }
-    ensures writes { WritesRows S.Store (each entry_of rows.now) counts writing.old.store.now writing.new.store.now result }
-{
-    check_counts(counts)?;
-    put_all(writing, rows)?;
-    writing.set_counts(counts)
-}
-
-/// Writes these records and counts in a transaction of its own, and commits it. The errors are
-/// those of [`CarryError`], with the fault of `write_rows` or of the commit; after each but
-/// `InDoubt` the office is as it was (this project's own).
-fn carry_rows<S: Alter + Drop>(
-    store: &mut Store<S>,
-    rows: &[KeyedRecord],
-    counts: Counts,
-) -> Result<(), CarryError>
-    requires idle { store.old.in_transaction ≡ false }
-    ensures carries { CarriesRows S.Store (each entry_of rows.now) counts store.old store.new result }
-{
-    let mut writing = store.begin();
-    if let Err(fault) = write_rows(&mut writing, rows, counts) {
-        let ended = writing.roll_back();
-        return Err(failure(fault, ended));
-    }
-    match writing.commit() {
-        Ok(()) => Ok(()),
-        Err(StoreFault::Memory) => {
-            let ended = store.roll_back();
-            Err(failure(StoreFault::Memory, ended))
-        }
-        Err(fault) => Err(CarryError::InDoubt(fault)),
-    }
-}
-
-/// Writes what a report changed to the tables.
-fn keep_report<S: Alter + Drop>(
-    store: &mut Store<S>,
-    rows: &[KeyedRecord],
-    counts: Counts,
-) -> Result<(), Failure>
-    ensures keeps { (report : AnyReport) → KeepsReport S.Store report (each entry_of rows.now) counts store.old store.new result }
-{
-    if !store.is_idle() {
-        return Err(Failure::Unread(unfit(Table::Office)));
-    }
-    match carry_rows(store, rows, counts) {
-        Ok(()) => Ok(()),
-        Err(failure) => Err(Failure::Uncommitted(failure)),
-    }
-}
-
 /// Carries out a report with these lines, which the office does not refuse, and notes what it
 /// changes.
 fn answer_lines<S: Alter + Drop>(
@@ -289,7 +197,7 @@ fn answer_lines<S: Alter + Drop>(
         accepted: counts.accepted + 1,
     };
     let changed = rows.len() as u64;
-    match keep_report(store, &rows, counts) {
+    match keep_batch(store, &Batch::Puts(&rows), counts) {
         Ok(()) => {
             note_changes(notes, &report.arch, changes);
             Ok(Answered {

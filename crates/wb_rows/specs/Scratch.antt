@@ -1,5 +1,5 @@
 -- What the rows of the scratch tables of a merge hold, as SQL values, and which of them are read.
-use Rattle.std.specs.Prelude.{◌≢◌, ℕ, ◌^◌, ◌<◌, List, [], ◌∷◌, IsUtf8}
+use Rattle.std.specs.Prelude.{◌≡◌, ◌≢◌, ℕ, ◌^◌, ◌<◌, Bool, List, [], ◌∷◌, Option, None, Some, unwrap_or, if◌then◌else◌, IsUtf8, IfSome}
 use Rattle.sqlite.specs.declared.types.Value.TheVariants.{Text}
 use Rattle.sqlite.specs.Order.{Row}
 use Rattle.wb_states.specs.declared.scratch.BinaryRow.{BinaryRow}
@@ -12,9 +12,25 @@ abbrev pub source_cells : SourceRow → Row
 source_cells row =
     number row.seq ∷ Text row.name ∷ Text row.version ∷ Text row.architecture ∷ flag row.extra ∷ Text row.priority ∷ Text row.section ∷ Text row.depends ∷ Text row.depends_arch ∷ []
 
--- the columns of a binary package of a merge: its place in the list, and its fields
+-- the text of a version, empty if there is none
+abbrev pub version_or_empty : Option (List ℕ) → List ℕ
+version_or_empty version = unwrap_or version []
+
+-- whether a package was built on the architecture, as a number: 1 or 0, and 2 more if there is no version
+abbrev pub own_number : Bool → Option (List ℕ) → ℕ
+own_number own None = if own then 3 else 2
+own_number own (Some version) = if own then 1 else 0
+
+-- the columns of a binary package of a merge, or of a name that one provides: its place among the rows, and its fields
 abbrev pub binary_cells : BinaryRow → Row
-binary_cells row = number row.seq ∷ Text row.name ∷ Text row.version ∷ Text row.source ∷ Text row.source_version ∷ number row.number ∷ flag row.own ∷ []
+binary_cells row =
+    number row.seq ∷ Text row.name ∷ Text (version_or_empty row.version) ∷ Text row.source ∷ Text row.source_version ∷ number row.number
+    ∷ number (own_number row.own row.version) ∷ []
+
+-- a version, if there is one, and whether a package was built on the architecture have this text and this number
+pub record IsOffered (text : List ℕ) (n : ℕ) (version : Option (List ℕ)) (own : Bool) : Type 0 where
+  pub of_version : text ≡ version_or_empty version
+  pub of_own : n ≡ own_number own version
 
 -- a name alone
 abbrev pub name_cells : List ℕ → Row
@@ -33,7 +49,7 @@ pub record IsReadableSource (row : SourceRow) : Type 0 where
 -- a binary package whose row can be read: its names are UTF-8, its versions have their form, and the number of its rebuild fits
 pub record IsReadableBinary (row : BinaryRow) : Type 0 where
   pub name : IsUtf8 row.name
-  pub version : IsVersion row.version
+  pub version : IfSome row.version IsVersion
   pub source : IsUtf8 row.source
   pub source_version : IsVersion row.source_version
   pub number : row.number < 2 ^ 16

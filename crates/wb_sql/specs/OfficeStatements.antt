@@ -127,9 +127,13 @@ arch_row = lit Null ∷ parameter 0 ∷ parameter 1 ∷ parameter 2 ∷ []
 abbrev pub archs_where : List Term → List (Term × Key) → TableQuery
 archs_where tests order = record { tree = 1; filter = tests; project = cell 1 ∷ cell 2 ∷ cell 3 ∷ []; order = order; collations = []; limit = no_limit; offset = none_skipped }
 
+-- the architecture's name is the parameter
+abbrev pub has_arch_name : List Term
+has_arch_name = equals 1 0 ∷ []
+
 -- the architecture of a name
 abbrev pub arch_of_name : TableQuery
-arch_of_name = archs_where (equals 1 0 ∷ []) []
+arch_of_name = archs_where has_arch_name []
 
 -- all architectures, by name
 abbrev pub all_archs : TableQuery
@@ -143,9 +147,13 @@ builder_row = lit Null ∷ parameter 0 ∷ parameter 1 ∷ []
 abbrev pub pairs_where : List Term → List (Term × Key) → TableQuery
 pairs_where tests order = record { tree = 3; filter = tests; project = cell 1 ∷ cell 2 ∷ []; order = order; collations = []; limit = no_limit; offset = none_skipped }
 
+-- the pair of a builder and an architecture is the two parameters
+abbrev pub has_pair : List Term
+has_pair = equals 1 0 ∷ equals 2 1 ∷ []
+
 -- the pair of these two names
 abbrev pub pair_of_builder : TableQuery
-pair_of_builder = pairs_where (equals 1 0 ∷ equals 2 1 ∷ []) []
+pair_of_builder = pairs_where has_pair []
 
 -- the pairs of one builder, by architecture
 abbrev pub pairs_of_builder : TableQuery

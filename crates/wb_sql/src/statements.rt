@@ -1,13 +1,22 @@
-//! The SQL texts that work on the office's tables, with what each means over every schema that has its table.
+//! The SQL texts that work on the office's tables, with what each means over every schema that has
+//! its table.
 
 ghost use Rattle.std.specs.Prelude.{[]};
-ghost use Rattle.wb_sql.specs.Tables.{office, arch, builder, source_record, scratch_source, scratch_binary};
-ghost use Rattle.wb_sql.specs.Among.{AsksAmong, InsertsAmong, UpsertsRecords, UpdatesAmong, DeletesAmong};
+ghost use Rattle.wb_sql.specs.Tables.{office, arch, builder, source_record, scratch_source};
+ghost use Rattle.wb_sql.specs.Tables.{scratch_binary};
+ghost use Rattle.wb_sql.specs.Among.{AsksAmong, InsertsAmong, UpsertsRecords, UpdatesAmong};
+ghost use Rattle.wb_sql.specs.Among.{DeletesAmong};
 ghost use Rattle.wb_sql.specs.Format.{AsksFormat};
-ghost use Rattle.wb_sql.specs.OfficeStatements.{has_record_key, record_sets, record_of_key, queue_of, head_of};
-ghost use Rattle.wb_sql.specs.OfficeStatements.{record_of_take, held_by, records_in_state, records_of_arch, states_of_arch, names_of_arch, all_records};
-ghost use Rattle.wb_sql.specs.OfficeStatements.{arch_row, arch_of_name, all_archs, office_sets, office_counts, office_row};
-ghost use Rattle.wb_sql.specs.OfficeStatements.{builder_row, pair_of_builder, pairs_of_builder, all_builders, first_source, first_binary};
+ghost use Rattle.wb_sql.specs.OfficeStatements.{has_record_key, record_sets, record_of_key};
+ghost use Rattle.wb_sql.specs.OfficeStatements.{queue_of, head_of};
+ghost use Rattle.wb_sql.specs.OfficeStatements.{record_of_take, held_by, records_in_state};
+ghost use Rattle.wb_sql.specs.OfficeStatements.{records_of_arch, states_of_arch, names_of_arch};
+ghost use Rattle.wb_sql.specs.OfficeStatements.{all_records};
+ghost use Rattle.wb_sql.specs.OfficeStatements.{arch_row, arch_of_name, all_archs, has_arch_name};
+ghost use Rattle.wb_sql.specs.OfficeStatements.{office_sets, office_counts, office_row};
+ghost use Rattle.wb_sql.specs.OfficeStatements.{builder_row, has_pair, pair_of_builder};
+ghost use Rattle.wb_sql.specs.OfficeStatements.{pairs_of_builder, all_builders, first_source};
+ghost use Rattle.wb_sql.specs.OfficeStatements.{first_binary};
 
 // For a merge and an entry. REPLACE would move the row to the end of the table and write all its
 // trees anew: over 35,000 records a hand-out costs a sixth less so, and a report of a build a
@@ -115,16 +124,16 @@ pub fn records_in_state() -> &'static str
 
 // One look-up, whose answer is counted, for `summary`: ten statements with COUNT would be ten
 // questions, and each command would have to keep a table of counts in step.
-/// The state of each record of an architecture, in no order. The index `record_order` has both columns, so no record is
-/// read.
+/// The state of each record of an architecture, in no order. The index `record_order` has both
+/// columns, so no record is read.
 pub fn states_of_arch() -> &'static str
     ensures { AsksAmong source_record result.now states_of_arch 1 }
 {
     "SELECT state FROM source_record WHERE arch = ?1"
 }
 
-/// The source package of each record of an architecture, by name. The index of the key has both columns, so no record is
-/// read.
+/// The source package of each record of an architecture, by name. The index of the key has both
+/// columns, so no record is read.
 pub fn names_of_arch() -> &'static str
     ensures { AsksAmong source_record result.now names_of_arch 1 }
 {
@@ -168,7 +177,8 @@ pub fn builder_pairs() -> &'static str
     "SELECT name, arch FROM builder WHERE name = ?1 ORDER BY arch"
 }
 
-/// All builders with the architectures for which they were added, by builder and then by architecture.
+/// All builders with the architectures for which they were added, by builder and then by
+/// architecture.
 pub fn all_builders() -> &'static str
     ensures { AsksAmong builder result.now all_builders 0 }
 {
@@ -189,8 +199,8 @@ pub fn office_row() -> &'static str
     "SELECT id, format, handed, accepted FROM office"
 }
 
-/// The format of the office, in each row of a table `office` that has such a column, whatever else the database has, as
-/// [`crate::has_format_column`] says.
+/// The format of the office, in each row of a table `office` that has such a column, whatever else
+/// the database has, as [`crate::has_format_column`] says.
 pub fn office_format() -> &'static str
     ensures { AsksFormat result.now }
 {
@@ -225,7 +235,22 @@ pub fn add_builder() -> &'static str
     "INSERT INTO builder(name, arch) VALUES (?1, ?2)"
 }
 
-/// Sets the two counts of the office, which are the parameters: take numbers handed out, and commands accepted.
+/// Takes out the architecture of a name.
+pub fn remove_arch() -> &'static str
+    ensures { DeletesAmong arch result.now has_arch_name 1 }
+{
+    "DELETE FROM arch WHERE name = ?1"
+}
+
+/// Takes out the pair of a builder and an architecture.
+pub fn remove_builder() -> &'static str
+    ensures { DeletesAmong builder result.now has_pair 2 }
+{
+    "DELETE FROM builder WHERE name = ?1 AND arch = ?2"
+}
+
+/// Sets the two counts of the office, which are the parameters: take numbers handed out, and
+/// commands accepted.
 pub fn set_counts() -> &'static str
     ensures { UpdatesAmong office result.now [] office_sets 2 }
 {

@@ -2,7 +2,7 @@
 use Rattle.std.proofs.Common.{◌≡◌, ◌↔◌, ℕ, cond, List, [], refl, sym, ap, ◌∙◌, nat_eq, bytes_eq}
 use Rattle.std.specs.Prelude.{codes}
 use Rattle.wb_states.specs.declared.refusal.Refusal.{Refusal}
-use Rattle.wb_states.specs.declared.refusal.Refusal.TheVariants.{UnknownArch, UnknownBuilder, WrongArch, UnknownSource, OtherVersion, WrongState, QueueEmpty, NotHeld, AfterAhead, AlreadyThere, BadName, BadVersion, BadRelations, BadNumber, BadListing, BadReport, TextTooLong, Spent, RepeatedArch, Closed, Store, Memory}
+use Rattle.wb_states.specs.declared.refusal.Refusal.TheVariants.{UnknownArch, UnknownBuilder, WrongArch, UnknownSource, OtherVersion, WrongState, QueueEmpty, NotHeld, AfterAhead, AlreadyThere, BadName, BadVersion, BadRelations, BadNumber, BadListing, BadReport, TextTooLong, Spent, RepeatedArch, StillHeld, Closed, Store, Memory}
 use Rattle.wb_states.specs.declared.state.State.{State}
 use Rattle.wb_states.specs.declared.state.State.TheVariants.{NeedsBuild, Building, Built, Uploaded, Installed, DepWait, BdUninstallable, Failed, NotForUs, BuildAttempted}
 use Rattle.wb_states.specs.Refusals.{code_of_refusal, name_of_refusal}
@@ -96,10 +96,11 @@ name_at code =
     (cond (nat_eq code 17) (codes "TextTooLong")
     (cond (nat_eq code 18) (codes "Spent")
     (cond (nat_eq code 22) (codes "RepeatedArch")
+    (cond (nat_eq code 23) (codes "StillHeld")
     (cond (nat_eq code 19) (codes "Closed")
     (cond (nat_eq code 20) (codes "Memory")
     (cond (nat_eq code 21) (codes "Store")
-    []))))))))))))))))))))))
+    [])))))))))))))))))))))))
 
 name_at-code : (refusal : Refusal) → name_at (code_of_refusal refusal) ≡ name_of_refusal refusal
 name_at-code UnknownArch = refl
@@ -121,6 +122,7 @@ name_at-code (BadReport line) = refl
 name_at-code TextTooLong = refl
 name_at-code Spent = refl
 name_at-code RepeatedArch = refl
+name_at-code StillHeld = refl
 name_at-code Closed = refl
 name_at-code Memory = refl
 name_at-code (Store fault) = refl
@@ -147,10 +149,11 @@ code_at name =
     (cond (bytes_eq name (codes "TextTooLong")) 17
     (cond (bytes_eq name (codes "Spent")) 18
     (cond (bytes_eq name (codes "RepeatedArch")) 22
+    (cond (bytes_eq name (codes "StillHeld")) 23
     (cond (bytes_eq name (codes "Closed")) 19
     (cond (bytes_eq name (codes "Memory")) 20
     (cond (bytes_eq name (codes "Store")) 21
-    0))))))))))))))))))))))
+    0)))))))))))))))))))))))
 
 code_at-name : (refusal : Refusal) → code_at (name_of_refusal refusal) ≡ code_of_refusal refusal
 code_at-name UnknownArch = refl
@@ -172,6 +175,7 @@ code_at-name (BadReport line) = refl
 code_at-name TextTooLong = refl
 code_at-name Spent = refl
 code_at-name RepeatedArch = refl
+code_at-name StillHeld = refl
 code_at-name Closed = refl
 code_at-name Memory = refl
 code_at-name (Store fault) = refl

@@ -12,6 +12,14 @@ AddArch name os cpu = of.AddArch (record { name = name; os = os; cpu = cpu })
 abbrev pub AddBuilder : List ℕ → List ℕ → Command
 AddBuilder name arch = of.AddBuilder (record { name = name; arch = arch })
 
+-- an architecture is taken away
+abbrev pub RemoveArch : List ℕ → Command
+RemoveArch name = of.RemoveArch (record { name = name })
+
+-- a builder may build no more for an architecture
+abbrev pub RemoveBuilder : List ℕ → List ℕ → Command
+RemoveBuilder name arch = of.RemoveBuilder (record { name = name; arch = arch })
+
 -- a source package is entered
 abbrev pub Enter : List ℕ → List ℕ → List ℕ → List ℕ → List ℕ → Command
 Enter arch source version priority section = of.Enter (record { arch = arch; source = source; version = version; priority = priority; section = section })
@@ -67,6 +75,10 @@ Rebuild arch source version number message = of.Rebuild (record { arch = arch; s
 -- it gets another build priority
 abbrev pub BuildPriority : List ℕ → List ℕ → List ℕ → ℤ → Command
 BuildPriority arch source version value = of.BuildPriority (record { arch = arch; source = source; version = version; value = value })
+
+-- its record is taken away
+abbrev pub Forget : List ℕ → List ℕ → List ℕ → Command
+Forget arch source version = of.Forget (record { arch = arch; source = source; version = version })
 
 -- lists are merged
 abbrev pub Merge : List ℕ → List Part → Command

@@ -2,7 +2,7 @@
 use Rattle.std.specs.Prelude.{◌≡◌, ◌≢◌, ℕ, Bool, true, false, List, codes}
 use Rattle.deb_control.specs.Faults.{fault_name}
 use Rattle.wb_states.specs.declared.refusal.Refusal.{Refusal}
-use Rattle.wb_states.specs.declared.refusal.Refusal.TheVariants.{UnknownArch, UnknownBuilder, WrongArch, UnknownSource, OtherVersion, WrongState, QueueEmpty, NotHeld, AfterAhead, AlreadyThere, BadName, BadVersion, BadRelations, BadNumber, BadListing, BadReport, TextTooLong, Spent, RepeatedArch, Closed, Store, Memory}
+use Rattle.wb_states.specs.declared.refusal.Refusal.TheVariants.{UnknownArch, UnknownBuilder, WrongArch, UnknownSource, OtherVersion, WrongState, QueueEmpty, NotHeld, AfterAhead, AlreadyThere, BadName, BadVersion, BadRelations, BadNumber, BadListing, BadReport, TextTooLong, Spent, RepeatedArch, StillHeld, Closed, Store, Memory}
 use Rattle.wb_states.specs.declared.store_fault.StoreFault.{StoreFault}
 use Rattle.wb_states.specs.declared.store_fault.StoreFault.TheVariants.{Memory as NoMemory}
 use Rattle.wb_states.specs.declared.refusal.ListKind.{ListKind}
@@ -33,6 +33,7 @@ code_of_refusal (BadReport line) = 16
 code_of_refusal TextTooLong = 17
 code_of_refusal Spent = 18
 code_of_refusal RepeatedArch = 22
+code_of_refusal StillHeld = 23
 code_of_refusal Closed = 19
 code_of_refusal Memory = 20
 code_of_refusal (Store fault) = 21
@@ -58,6 +59,7 @@ name_of_refusal (BadReport line) = codes "BadReport"
 name_of_refusal TextTooLong = codes "TextTooLong"
 name_of_refusal Spent = codes "Spent"
 name_of_refusal RepeatedArch = codes "RepeatedArch"
+name_of_refusal StillHeld = codes "StillHeld"
 name_of_refusal Closed = codes "Closed"
 name_of_refusal Memory = codes "Memory"
 name_of_refusal (Store fault) = codes "Store"

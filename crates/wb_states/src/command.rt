@@ -31,6 +31,22 @@ pub struct AddBuilder {
     pub arch: Text,
 }
 
+/// Takes an architecture away, with its builders' pairs and its records.
+#[derive(Debug, Drop)]
+pub struct RemoveArch {
+    /// The name of the architecture.
+    pub name: Text,
+}
+
+/// Lets a builder build no more for an architecture.
+#[derive(Debug, Drop)]
+pub struct RemoveBuilder {
+    /// The name of the builder.
+    pub name: Text,
+    /// The architecture for which it may build no more.
+    pub arch: Text,
+}
+
 /// Puts a source package without a record into the queue of an architecture.
 #[derive(Debug, Drop)]
 pub struct Enter {
@@ -162,6 +178,17 @@ pub struct BuildPriority {
     pub value: i64,
 }
 
+/// Takes the record of a source package away.
+#[derive(Debug, Drop)]
+pub struct Forget {
+    /// The architecture.
+    pub arch: Text,
+    /// The source package.
+    pub source: Text,
+    /// The version that the record must have, in the order of versions.
+    pub version: Text,
+}
+
 /// A part of a merge: what the archive has for one architecture.
 #[derive(Debug, Drop)]
 pub struct Part {
@@ -196,6 +223,10 @@ pub enum Command {
     AddArch(AddArch),
     /// Lets a builder build for an architecture.
     AddBuilder(AddBuilder),
+    /// Takes an architecture away, with all that it has.
+    RemoveArch(RemoveArch),
+    /// Lets a builder build no more for an architecture.
+    RemoveBuilder(RemoveBuilder),
     /// Puts a source package without a record into the queue.
     Enter(Enter),
     /// Gives a builder the head of a queue.
@@ -224,6 +255,8 @@ pub enum Command {
     Rebuild(Rebuild),
     /// Gives a source package another build priority.
     BuildPriority(BuildPriority),
+    /// Takes the record of a source package away.
+    Forget(Forget),
     /// Brings the records in line with what the archive lists.
     Merge(Merge),
     /// Moves records by what a report says of their build dependencies.
@@ -238,6 +271,8 @@ impl Command {
         match self {
             Command::AddArch(_) => "add-arch",
             Command::AddBuilder(_) => "add-builder",
+            Command::RemoveArch(_) => "remove-arch",
+            Command::RemoveBuilder(_) => "remove-builder",
             Command::Enter(_) => "enter",
             Command::Next(_) => "next",
             Command::Take(_) => "take",
@@ -252,6 +287,7 @@ impl Command {
             Command::NotForUs(_) => "not-for-us",
             Command::Rebuild(_) => "rebuild",
             Command::BuildPriority(_) => "build-priority",
+            Command::Forget(_) => "forget",
             Command::Merge(_) => "merge",
             Command::Report(_) => "report",
         }

@@ -1,6 +1,7 @@
 //! Why the office refuses a command.
 ghost use Rattle.std.specs.Prelude.{◌≡◌};
-ghost use Rattle.wb_states.specs.Refusals.{code_of_refusal, is_of_store, name_of_refusal, name_of_list, name_of_field, name_of_listing_fault};
+ghost use Rattle.wb_states.specs.Refusals.{code_of_refusal, is_of_store, name_of_refusal};
+ghost use Rattle.wb_states.specs.Refusals.{name_of_list, name_of_field, name_of_listing_fault};
 
 use crate::{State, StoreFault};
 use deb_control::ControlFaultKind;
@@ -99,8 +100,9 @@ impl ListingFault {
 /// `RepeatedArch`. Then what the office has: `UnknownArch`, `BadListing`, `UnknownBuilder`,
 /// `WrongArch`, `AfterAhead`, `NotHeld`, `UnknownSource`, `OtherVersion`, `WrongState`,
 /// `QueueEmpty`, `AlreadyThere`, `BadRelations` for waits that reduce to nothing or to too much,
-/// `BadNumber` for a number that is not above the record's, `Spent`. `Memory` and, after the texts,
-/// `Store` may come at any point. The order, the numbers and the names are this project's own.
+/// `BadNumber` for a number that is not above the record's, `StillHeld`, `Spent`. `Memory` and,
+/// after the texts, `Store` may come at any point. The order, the numbers and the names are this
+/// project's own.
 #[derive(Debug, Drop, Error)]
 pub enum Refusal {
     /// The architecture was never added, or a merge has no part.
@@ -179,6 +181,9 @@ pub enum Refusal {
     /// Two parts of the merge are for one architecture.
     #[error("two parts are for one architecture")]
     RepeatedArch,
+    /// A builder holds the record, or one of the records, that would go or lose its builder.
+    #[error("a builder holds it, or a record of it")]
+    StillHeld,
     /// The store failed before, and the office answers nothing until it is opened again.
     #[error("the office is closed until it is opened again")]
     Closed,
@@ -239,6 +244,7 @@ impl Refusal {
             Refusal::Memory => 20,
             Refusal::Store { .. } => 21,
             Refusal::RepeatedArch => 22,
+            Refusal::StillHeld => 23,
         }
     }
 
@@ -269,6 +275,7 @@ impl Refusal {
             Refusal::Memory => "Memory",
             Refusal::Store { .. } => "Store",
             Refusal::RepeatedArch => "RepeatedArch",
+            Refusal::StillHeld => "StillHeld",
         }
     }
 }

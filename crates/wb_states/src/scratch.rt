@@ -28,21 +28,24 @@ pub struct SourceRow {
 }
 
 /// What a merge keeps of a paragraph of a Packages list that can be installed on the architecture
-/// whose part is merged (Debian Policy 5.3; that these fields are kept is this project's own).
+/// whose part is merged: one row of the package itself, and one of each name that it provides
+/// (Debian Policy 5.3 and 7.5; that these fields are kept is this project's own).
 #[derive(Debug, Drop)]
 pub struct BinaryRow {
-    /// The number of the paragraph, counted from 1.
+    /// The number of the row among those that are kept, counted from 1; until it is kept, that of
+    /// its paragraph.
     pub seq: u64,
-    /// The binary package.
+    /// The binary package, or the name that it provides.
     pub name: Text,
-    /// The version of the binary package.
-    pub version: Version,
-    /// The source package that it was built from.
+    /// The version of the binary package, or that in which it provides the name, if it gives one.
+    pub version: Option<Version>,
+    /// The source package that it was built from, empty for a name that it provides.
     pub source: Text,
     /// The version of the source package that it was built from.
     pub source_version: Version,
     /// The number of the binary-only rebuild, 0 for none, at most 999.
     pub number: u16,
-    /// Whether it was built on the architecture; if not, its architecture is `all`.
+    /// Whether it was built on the architecture; if not, its architecture is `all`, or the row is
+    /// of a name that it provides.
     pub own: bool,
 }

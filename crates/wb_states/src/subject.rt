@@ -8,8 +8,8 @@ use deb_text::Text;
 /// The records that a command names: what has to be looked up before it can be carried out.
 #[derive(Debug, Drop)]
 pub enum Subject<'a> {
-    /// None by itself: the command adds an architecture or a builder, or its lists or its report
-    /// name them.
+    /// None by itself: the command adds an architecture or a builder, or its lists, its report or
+    /// the architecture that it takes away name them.
     Nothing,
     /// That of a source package: the architecture and the source package.
     Source(&'a Text, &'a Text),
@@ -17,6 +17,8 @@ pub enum Subject<'a> {
     Taken(u64),
     /// The head of a queue, and what a builder that asks again holds.
     Head(&'a command::Next),
+    /// Those that a builder holds.
+    Held(&'a Text),
 }
 
 impl Command {
@@ -25,8 +27,12 @@ impl Command {
         ensures value { subject_named result ≡ subject_of self.now }
     {
         match self {
-            Command::AddArch(_) | Command::AddBuilder(_) | Command::Merge(_) | Command::Report(_) =>
-                Subject::Nothing,
+            Command::AddArch(_)
+            | Command::AddBuilder(_)
+            | Command::RemoveArch(_)
+            | Command::Merge(_)
+            | Command::Report(_) => Subject::Nothing,
+            Command::RemoveBuilder(remove) => Subject::Held(&remove.name),
             Command::Enter(enter) => Subject::Source(&enter.arch, &enter.source),
             Command::Next(next) => Subject::Head(next),
             Command::Take(take) => Subject::Source(&take.arch, &take.source),
@@ -42,6 +48,7 @@ impl Command {
             }
             Command::Rebuild(rebuild) => Subject::Source(&rebuild.arch, &rebuild.source),
             Command::BuildPriority(priority) => Subject::Source(&priority.arch, &priority.source),
+            Command::Forget(forget) => Subject::Source(&forget.arch, &forget.source),
         }
     }
 }

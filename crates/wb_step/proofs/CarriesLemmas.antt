@@ -36,6 +36,13 @@ pub reaches-memory : {machine : Machine} {outcome : Outcome} (result : Result Re
 reaches-memory (Ok reply) none = absurd none
 reaches-memory (Err returned) none = record { reply = tt; refused = λ differs. absurd (differs none); unchanged = refl }
 
+-- there is no memory for a change, and `?` gives that back
+pub reaches-failed : {old new : Machine} {outcome : Outcome} (result : Result Reply Refusal)
+    → IsErrAnd result (λ returned. returned ≡ Memory) → new ≡ old → HasOutcome old new outcome result
+reaches-failed (Ok reply) none unchanged = absurd none
+reaches-failed (Err returned) none unchanged =
+    record { reply = tt; refused = λ differs. absurd (differs none); unchanged = unchanged }
+
 -- the last call writes the outcome, or memory runs out and it writes nothing
 pub reaches-kept : {old new : Machine} {outcome : Outcome} {result : Result Reply Refusal}
     → IfOk result (λ reply. outcome ≡ (Ok reply, new)) → IfErr result (λ refusal. refusal ≡ Memory) → OnErr result (new ≡ old)

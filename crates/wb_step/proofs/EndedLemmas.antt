@@ -22,6 +22,7 @@ use Rattle.deb_text.proofs.SortedLemmas.{IsIn-filter, IsIn-find}
 use Rattle.wb_merge.specs.declared.listing.Listed.{Listed}
 use Rattle.wb_merge.specs.declared.listing.Built.{Built as WasBuilt}
 use Rattle.wb_merge.specs.Merge.{record_after}
+use Rattle.wb_step.specs.Arguments.{OfArch, OfPackage}
 use Rattle.wb_step.specs.Checks.{first_refusal, is_not_held, refused_move, take_named}
 use Rattle.wb_step.specs.Targets.{again_of, move_of_command, transition_of}
 use Rattle.wb_step.specs.Replay.{replay}
@@ -32,6 +33,7 @@ use Rattle.wb_step.proofs.MergedLemmas.{records_after-keeps}
 use Rattle.wb_step.proofs.ReportingLemmas.{line-free, reported-keeps}
 use Rattle.wb_step.proofs.TransitionLemmas.{transition_of-may, taken_as-stands}
 use Rattle.wb_step.proofs.PassLemmas.{passes, step-either}
+use Rattle.wb_step.proofs.RemovalLemmas.{removing_all}
 use Rattle.wb_merge.proofs.RelistedLemmas.{listed-left, new-left}
 
 -- a record is not held under a take number
@@ -74,8 +76,11 @@ asked-other take_number machine command words move below is = at command is wher
   at : (asks : Command) → move_of_command machine asks words ≡ Some move → IsOther take_number move
   at (of.AddArch fields) e = cc
   at (of.AddBuilder fields) e = cc
+  at (of.RemoveArch fields) e = cc
+  at (of.RemoveBuilder fields) e = cc
   at (of.Enter fields) e = cc
   at (of.BuildPriority fields) e = cc
+  at (of.Forget fields) e = cc
   at (of.Merge fields) e = cc
   at (of.Report fields) e = cc
   at (of.Next fields) e = made (to.Take fields.builder (machine.handed + 1)) next e
@@ -113,6 +118,11 @@ state_after-free : (take_number : ℕ) (machine : Machine) (command : Command) �
     → IsFree take_number (state_after machine command)
 state_after-free take_number machine (of.AddArch fields) below old allowed = old
 state_after-free take_number machine (of.AddBuilder fields) below old allowed = old
+state_after-free take_number machine (of.RemoveArch fields) below old allowed = removing_all
+    (λ key. IsNotTaken take_number) machine (OfArch fields) old
+state_after-free take_number machine (of.RemoveBuilder fields) below old allowed = old
+state_after-free take_number machine (of.Forget fields) below old allowed = removing_all (λ key. IsNotTaken take_number)
+    machine (OfPackage fields) old
 state_after-free take_number machine (of.Enter fields) below old allowed =
     insert_all pair_cmp_total pair_cmp-same (λ key. IsNotTaken take_number) machine.records (fields.arch, fields.source) (entered fields.version fields.priority fields.section) tt old
 state_after-free take_number machine (of.Merge fields) below old allowed =

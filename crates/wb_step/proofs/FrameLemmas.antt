@@ -24,6 +24,7 @@ use Rattle.wb_step.specs.Step.{after_move, after_priority, lines_said, state_aft
 use Rattle.wb_step.proofs.ReportingLemmas.{report-others}
 use Rattle.wb_step.proofs.TransitionLemmas.{transition_of-may}
 use Rattle.wb_step.proofs.PassLemmas.{step-either}
+use Rattle.wb_step.proofs.RemovalLemmas.{remove-other, retain-other}
 
 -- an insertion changes no other key
 pub insert-other : (records : Records) (key other : List ℕ × List ℕ) (current : Record) → (other ≡ key → ⊥)
@@ -79,6 +80,10 @@ state_after-others : (machine : Machine) (command : Command) (key : List ℕ × 
     → map.get (state_after machine command).records key ≡ map.get machine.records key
 state_after-others machine (of.AddArch fields) key allowed apart = refl
 state_after-others machine (of.AddBuilder fields) key allowed apart = refl
+state_after-others machine (of.RemoveArch fields) key allowed apart = retain-other machine.records fields.name key apart
+state_after-others machine (of.RemoveBuilder fields) key allowed apart = refl
+state_after-others machine (of.Forget fields) key allowed apart =
+    remove-other pair_cmp_total pair_cmp-same machine.records (fields.arch, fields.source) key apart
 state_after-others machine (of.Enter fields) key allowed apart =
     insert-other machine.records (fields.arch, fields.source) key (entered fields.version fields.priority fields.section) apart
 state_after-others machine (of.Merge fields) key allowed apart = parts-others machine fields.sources fields.parts machine.records key apart

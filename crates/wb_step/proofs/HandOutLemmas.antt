@@ -118,6 +118,9 @@ priority-handed machine key value (Some current) = omega arith
 state_after-handed : (machine : Machine) (command : Command) → machine.handed ≤ (state_after machine command).handed
 state_after-handed machine (of.AddArch fields) = omega arith
 state_after-handed machine (of.AddBuilder fields) = omega arith
+state_after-handed machine (of.RemoveArch fields) = omega arith
+state_after-handed machine (of.RemoveBuilder fields) = omega arith
+state_after-handed machine (of.Forget fields) = omega arith
 state_after-handed machine (of.Enter fields) = omega arith
 state_after-handed machine (of.Next fields) = omega arith
 state_after-handed machine (of.Take fields) = omega arith

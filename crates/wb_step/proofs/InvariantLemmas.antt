@@ -30,6 +30,8 @@ use Rattle.wb_step.proofs.ReportingLemmas.{reporting-keeps}
 use Rattle.wb_step.proofs.MovedRecordLemmas.{IsGoodMove, record_after_move-well, record_after_move-holder, record_after_move-waits, record_after_move-number}
 use Rattle.wb_step.proofs.TransitionLemmas.{transition_of-may}
 use Rattle.wb_step.proofs.PassLemmas.{Passes, step-either}
+use Rattle.wb_step.proofs.RemovalLemmas.{removing-keeps}
+use Rattle.wb_step.specs.Arguments.{OfArch, OfBuilder, OfPackage}
 use Rattle.wb_states.proofs.InStateLemmas.{empty_within}
 
 -- ---- a source package that is entered
@@ -169,6 +171,12 @@ state_after-keeps machine (of.AddArch fields) old utf8 pass again =
 state_after-keeps machine (of.AddBuilder fields) old utf8 pass again =
     let names = and_parts (is_builder_name fields.name) (is_arch_name fields.arch) (not-false _ pass.names) in
     with_builder machine fields.name fields.arch old (record { name = names.0; known = not-false _ pass.arch }) (room-for machine pass.room)
+state_after-keeps machine (of.RemoveArch fields) old utf8 pass again =
+    removing-keeps machine (OfArch fields) old pass.unheld (room-for machine pass.room)
+state_after-keeps machine (of.RemoveBuilder fields) old utf8 pass again =
+    removing-keeps machine (OfBuilder fields) old pass.unheld (room-for machine pass.room)
+state_after-keeps machine (of.Forget fields) old utf8 pass again =
+    removing-keeps machine (OfPackage fields) old pass.unheld (room-for machine pass.room)
 state_after-keeps machine (of.Enter fields) old utf8 pass again =
     let names = and_parts (is_arch_name fields.arch) (is_package_name fields.source && (is_label_text fields.priority && is_label_text fields.section)) (not-false _ pass.names) in
     let later = and_parts (is_package_name fields.source) (is_label_text fields.priority && is_label_text fields.section) names.1 in

@@ -3,6 +3,7 @@ pub mod AssignmentLemmas
 pub mod CarriesLemmas
 pub mod CountedLemmas
 pub mod EndedLemmas
+pub mod ForgetLemmas
 pub mod FrameLemmas
 pub mod HandOutLemmas
 pub mod HeadLemmas
@@ -26,10 +27,12 @@ pub mod PassLemmas
 pub mod PriorityLemmas
 pub mod QueueLemmas
 pub mod RefusalLemmas
+pub mod RemovalLemmas
 pub mod ReportingLemmas
 pub mod RetryLemmas
 pub mod SoughtLemmas
 pub mod StateRefusalLemmas
+pub mod StayLemmas
 pub mod StepLemmas
 pub mod TableLemmas
 pub mod TakeLemmas

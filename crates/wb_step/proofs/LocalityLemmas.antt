@@ -4,7 +4,9 @@ use Rattle.std.specs.Prelude.{unwrap_or}
 use Rattle.wb_states.specs.declared.moves.Move.TheVariants as to
 use Rattle.deb_relations.specs.declared.arch.ArchWords.{ArchWords}
 use Rattle.wb_states.specs.Machine.{with_words}
-use Rattle.wb_states.specs.declared.refusal.Refusal.TheVariants.{UnknownArch, UnknownBuilder, WrongArch, AfterAhead, NotHeld, UnknownSource, QueueEmpty, AlreadyThere, Spent}
+use Rattle.wb_states.specs.declared.refusal.Refusal.TheVariants.{UnknownArch, UnknownBuilder, WrongArch, AfterAhead}
+use Rattle.wb_states.specs.declared.refusal.Refusal.TheVariants.{NotHeld, UnknownSource, QueueEmpty, AlreadyThere}
+use Rattle.wb_states.specs.declared.refusal.Refusal.TheVariants.{StillHeld, Spent}
 use Rattle.wb_states.specs.declared.reply.Reply.TheVariants.{Done, Job, Again}
 use Rattle.wb_states.specs.Holds.{take_of}
 use Rattle.wb_step.specs.Checks.{when, differing}
@@ -26,14 +28,17 @@ use Rattle.wb_states.specs.Holds.{taken_as}
 use Rattle.wb_states.specs.Machine.{Machine, Key, archs_of, arch_words}
 use Rattle.wb_states.specs.Moves.{move_refusal}
 use Rattle.wb_states.specs.Queue.{Entry, head_of}
-use Rattle.wb_states.specs.Subject.{Subject, Nothing, Source, Taken, Head, subject_of}
-use Rattle.wb_step.specs.Arguments.{Addition, Import, Lists, Lines, arguments_of}
-use Rattle.wb_step.specs.Checks.{first_refusal, state_refusal, text_refusal, lacks_arch, merge_refusal, lacks_builder, is_for_other_archs, is_ahead, is_not_held, lacks_source, lists_refusal, other_version, refused_move, has_empty_queue, has_full_count, is_spent, is_for_others, is_unknown_source, other_version_at, source_in, source_named, take_in, take_named}
+use Rattle.wb_states.specs.Subject.{Subject, Nothing, Source, Taken, Head, Held, subject_of}
+use Rattle.wb_step.specs.Arguments.{Addition, Removal, OfArch, Import, Lists, Lines, arguments_of}
+use Rattle.wb_step.specs.Checks.{builder_named, first_refusal, state_refusal, text_refusal, lacks_arch, merge_refusal}
+use Rattle.wb_step.specs.Checks.{lacks_builder, is_for_other_archs, is_ahead, is_not_held, lacks_source, lists_refusal}
+use Rattle.wb_step.specs.Checks.{other_version, refused_move, has_empty_queue, has_full_count, is_spent, is_for_others}
+use Rattle.wb_step.specs.Checks.{is_unknown_source, other_version_at, source_in, source_named, take_in, take_named}
 use Rattle.wb_states.specs.Machine.{is_unknown_arch, is_unknown_builder}
 use Rattle.wb_step.specs.Parts.{parts_refusal}
 use Rattle.wb_step.specs.Targets.{again_of, first_named, next_in, next_named, target_of, transition_of, record_named, with_move, move_of_command}
 use Rattle.wb_step.specs.Step.{step, outcome, reply_by, reply_to, state_after, counted, after_move, after_take, after_priority}
-use Rattle.wb_step.specs.Locality.{LooksAlike, moved, entry_by, entry_put, prioritized, with_entry, changed}
+use Rattle.wb_step.specs.Locality.{IsSingle, LooksAlike, moved, entry_by, entry_put, prioritized, with_entry, changed}
 
 -- two functions of a value that may be missing agree if they do where it is there
 where_there : {X Y : Type 0} (f g : Option X → Y) (value : Option X) → f None ≡ g None → ((x : X) → value ≡ Some x → f (Some x) ≡ g (Some x)) → f value ≡ g value
@@ -52,20 +57,23 @@ module _ (command : Command) (one other : Machine) (alike : LooksAlike command o
 
   same_merge : merge_refusal one command ≡ merge_refusal other command
   same_merge =
-      ap (option_and_then (lists_refusal one)) alike.single ∙ sym (ap (option_and_then (lists_refusal other)) alike.single)
+      ap (option_and_then (lists_refusal one)) alike.single.imports
+      ∙ sym (ap (option_and_then (lists_refusal other)) alike.single.imports)
 
-  same_archs_of : (name : List ℕ) → (arguments_of command).builder ≡ Some name → archs_of one name ≡ archs_of other name
+  same_archs_of : (name : List ℕ) → builder_named command ≡ Some name → archs_of one name ≡ archs_of other name
   same_archs_of name is i = filter (λ arch. alike.builder name arch is i) (map.keys (alike.archs i))
 
   same_builder : lacks_builder one command ≡ lacks_builder other command
   same_builder =
-      where_there (has_value (is_unknown_builder one)) (has_value (is_unknown_builder other)) (arguments_of command).builder refl
+      where_there (has_value (is_unknown_builder one)) (has_value (is_unknown_builder other)) (builder_named command)
+      refl
       (λ name is. ap (λ archs. not (is_nonempty archs)) (same_archs_of name is))
 
   same_others : is_for_other_archs one command ≡ is_for_other_archs other command
   same_others =
       where_there (λ builder. has_value (λ arch. has_value (is_for_others one arch) builder) (arguments_of command).arch)
-      (λ builder. has_value (λ arch. has_value (is_for_others other arch) builder) (arguments_of command).arch) (arguments_of command).builder refl
+      (λ builder. has_value (λ arch. has_value (is_for_others other arch) builder) (arguments_of command).arch)
+      (builder_named command) refl
       (λ name is i. has_value (λ arch. not (alike.builder name arch is i)) (arguments_of command).arch)
 
   same_ahead : is_ahead one command ≡ is_ahead other command
@@ -111,12 +119,16 @@ same_first command one other alike Nothing is none = refl
 same_first command one other alike (Source arch source) is none = same_named command one other alike arch source (λ i. source_in (is i) (none i))
 same_first command one other alike (Taken take_number) is none = alike.taken take_number (ap take_in is)
 same_first command one other alike (Head next) is none = alike.head next (ap next_in is)
+same_first command one other alike (Held builder) is none = refl
 
 same_target : (command : Command) (one other : Machine) → LooksAlike command one other → target_of one command ≡ target_of other command
 same_target (of.AddArch fields) one other alike = refl
 same_target (of.AddBuilder fields) one other alike = refl
+same_target (of.RemoveArch fields) one other alike = refl
+same_target (of.RemoveBuilder fields) one other alike = refl
 same_target (of.Enter fields) one other alike = refl
 same_target (of.BuildPriority fields) one other alike = refl
+same_target (of.Forget fields) one other alike = refl
 same_target (of.Merge fields) one other alike = refl
 same_target (of.Report fields) one other alike = refl
 same_target command one other alike = same_first command one other alike (subject_of command) refl refl
@@ -159,6 +171,7 @@ same_refusal command one other alike i = option_or (text_refusal command) (first
     ∷ same_refused command one other alike i
     ∷ when (same_empty command one other alike i) QueueEmpty
     ∷ when (alike.there i) AlreadyThere
+    ∷ when (alike.held i) StillHeld
     ∷ when (same_limit command one other alike i) Spent
     ∷ []))
 
@@ -182,9 +195,9 @@ same_answered command (Some builder) one other alike =
 
 same_reply : (command : Command) (one other : Machine) → LooksAlike command one other → reply_to one command ≡ reply_to other command
 same_reply command one other alike =
-    ap (λ imports. reply_by one command imports (arguments_of command).builder) alike.single
+    ap (λ imports. reply_by one command imports (arguments_of command).builder) alike.single.imports
     ∙ same_answered command (arguments_of command).builder one other alike
-    ∙ sym (ap (λ imports. reply_by other command imports (arguments_of command).builder) alike.single)
+    ∙ sym (ap (λ imports. reply_by other command imports (arguments_of command).builder) alike.single.imports)
 
 -- what is answered, without the state after it
 abbrev answered : Option Refusal → Option Entry → ℕ → Reply → Result Reply Refusal
@@ -204,16 +217,19 @@ same_answer command one other alike =
     ∙ (λ i. answered (same_refusal command one other alike i) (alike.again i) (alike.accepted i) (same_reply command one other alike i))
     ∙ sym (answered_as (first_refusal other command) (again_of other command) other command)
 
-same_entry_by : (command : Command) (added : Option Addition) (value : Option ℤ) (one other : Machine) → LooksAlike command one other
-    → entry_by one command added value ≡ entry_by other command added value
-same_entry_by command (Some added) value one other alike = refl
-same_entry_by command None (Some value) one other alike =
+same_entry_by : (command : Command) (added : Option Addition) (removed : Option Removal) (value : Option ℤ)
+    (one other : Machine) → LooksAlike command one other
+    → entry_by one command added removed value ≡ entry_by other command added removed value
+same_entry_by command (Some added) removed value one other alike = refl
+same_entry_by command None (Some removed) value one other alike = refl
+same_entry_by command None None (Some value) one other alike =
     where_there (option_and_then (prioritized one value)) (option_and_then (prioritized other value)) (source_named command) refl
     (λ key is. ap (option_map (λ (current : Record). (key, record current { build_priority = value }))) (alike.source key is))
-same_entry_by command None None one other alike = ap (option_map moved) (same_transition command one other alike)
+same_entry_by command None None None one other alike = ap (option_map moved) (same_transition command one other alike)
 
 pub same_entry : (command : Command) (one other : Machine) → LooksAlike command one other → entry_put one command ≡ entry_put other command
-same_entry command one other alike = same_entry_by command (arguments_of command).adds (arguments_of command).build_priority one other alike
+same_entry command one other alike = same_entry_by command (arguments_of command).adds (arguments_of command).removes
+    (arguments_of command).build_priority one other alike
 
 by_move : (machine : Machine) (asked : Option (Entry × Move)) → after_move machine asked ≡ record machine { records = with_entry (option_map moved asked) machine.records }
 by_move machine None = refl
@@ -231,19 +247,27 @@ counted_take : (machine : Machine) (asked : Option (Entry × Move))
     → counted machine (after_take machine asked) ≡ record machine { records = with_entry (option_map moved asked) machine.records; handed = machine.handed + 1; accepted = machine.accepted + 1 }
 counted_take machine asked = ap (λ (after : Machine). counted machine (record after { handed = machine.handed + 1 })) (by_move machine asked)
 
-as_changed : (command : Command) (machine : Machine) → (arguments_of command).imports ≡ None → counted machine (state_after machine command) ≡ changed machine command
+no_removal : (name : List ℕ) → Some name ≢ None
+no_removal name e = cc
+
+as_changed : (command : Command) (machine : Machine) → IsSingle command
+    → counted machine (state_after machine command) ≡ changed machine command
 as_changed (of.AddArch fields) machine single = refl
 as_changed (of.AddBuilder fields) machine single = refl
+as_changed (of.RemoveArch fields) machine single = absurd (no_removal fields.name single.keeps)
+as_changed (of.RemoveBuilder fields) machine single = refl
+as_changed (of.Forget fields) machine single = refl
 as_changed (of.Enter fields) machine single = refl
 as_changed (of.Next fields) machine single = counted_take machine (transition_of machine (of.Next fields))
 as_changed (of.Take fields) machine single = counted_take machine (transition_of machine (of.Take fields))
 as_changed (of.BuildPriority fields) machine single = ap (counted machine) (by_priority machine (fields.arch, fields.source) fields.value (map.get machine.records (fields.arch, fields.source)))
-as_changed (of.Merge fields) machine single = absurd (no_import (Lists fields) single)
-as_changed (of.Report fields) machine single = absurd (no_import (Lines fields) single)
+as_changed (of.Merge fields) machine single = absurd (no_import (Lists fields) single.imports)
+as_changed (of.Report fields) machine single = absurd (no_import (Lines fields) single.imports)
 as_changed command machine single = counted_move machine (transition_of machine command)
 
--- a command that is accepted, is not told again and imports nothing makes this change
-pub steps_change : (command : Command) (machine : Machine) → (arguments_of command).imports ≡ None → first_refusal machine command ≡ None → again_of machine command ≡ None
+-- a command that is accepted, is not told again, imports nothing and takes no architecture away makes this change
+pub steps_change : (command : Command) (machine : Machine) → IsSingle command → first_refusal machine command ≡ None
+    → again_of machine command ≡ None
     → (step machine command).1 ≡ changed machine command
 unfolding step
 steps_change command machine single none fresh = ap₂ (λ refusal again. (outcome refusal again machine command).1) none fresh ∙ as_changed command machine single

@@ -68,8 +68,11 @@ pub asked-good : (machine : Machine) (handed : ℕ) (command : Command) (entry :
     → target_of machine command ≡ Some entry → move_of_command machine command (arch_words machine entry.0.0) ≡ Some move → IsGoodMove machine handed entry.0.0 move
 asked-good machine handed (of.AddArch fields) entry move utf8 given pass target is = none move is
 asked-good machine handed (of.AddBuilder fields) entry move utf8 given pass target is = none move is
+asked-good machine handed (of.RemoveArch fields) entry move utf8 given pass target is = none move is
+asked-good machine handed (of.RemoveBuilder fields) entry move utf8 given pass target is = none move is
 asked-good machine handed (of.Enter fields) entry move utf8 given pass target is = none move is
 asked-good machine handed (of.BuildPriority fields) entry move utf8 given pass target is = none move is
+asked-good machine handed (of.Forget fields) entry move utf8 given pass target is = none move is
 asked-good machine handed (of.Merge fields) entry move utf8 given pass target is = none move is
 asked-good machine handed (of.Report fields) entry move utf8 given pass target is = none move is
 asked-good machine handed (of.Next fields) entry move utf8 given pass target is =

@@ -1,6 +1,7 @@
 -- The part of an office that a command names is a part of it, and has all that the command names.
-use Rattle.std.proofs.Common.{◌≡◌, ◌≢◌, ◌∙◌, refl, sym, ap, subst, inl, inr, ◌⊎◌, ℕ, Bool, true, false, IsTrue, List, [], ◌∷◌, ◌++◌, map as each, Option, Some, None, IfSome, cond}
-use Rattle.std.specs.Prelude.{if◌then◌else◌, option_and_then, ◌||◌, is_some}
+use Rattle.std.proofs.Common.{◌≡◌, ◌≢◌, ◌∙◌, refl, sym, ap, subst, inl, inr, ◌⊎◌, ℕ, Bool, true, false, IsTrue, List}
+use Rattle.std.proofs.Common.{[], ◌∷◌, ◌++◌, map as each, Option, Some, None, IfSome, cond, bytes_eq}
+use Rattle.std.specs.Prelude.{if◌then◌else◌, option_and_then, ◌||◌, ◌↔◌, is_some}
 use Rattle.std.specs.List.{list_any}
 use Rattle.std.specs.Option.{option_map}
 use Rattle.std.specs.FinMap as map
@@ -12,9 +13,12 @@ use Rattle.std.specs.Cmp.{IsTotalOrder, tied_itself}
 use Rattle.std.specs.Cmp.Lexicographic.{nat_list_cmp_total}
 use Rattle.std.specs.FinMap.{IsAntisymmetric, nat_cmp-IsAntisymmetric, slice_cmp-IsAntisymmetric}
 use Rattle.deb_text.specs.Lists.{IsIn}
+use Rattle.deb_text.specs.Options.{has_value}
 use Rattle.deb_text.specs.Text.{text_cmp, pair_cmp}
 use Rattle.deb_text.proofs.KeyLemmas.{pair_cmp_total, pair_cmp-same}
-use Rattle.deb_text.proofs.SortedLemmas.{IsIn-filter}
+use Rattle.deb_text.proofs.SortedLemmas.{IsIn-filter, IsIn-find}
+use Rattle.std.proofs.lemmas.Bool.{and_parts}
+use Rattle.std.proofs.lemmas.Slice.Eq.{bytes_eq-Decides}
 use Rattle.wb_states.specs.declared.command.Command.{Command}
 use Rattle.wb_states.specs.declared.command.Command.TheVariants as of
 use Rattle.wb_states.specs.declared.command.Next.{Next}
@@ -22,12 +26,14 @@ use Rattle.wb_states.specs.declared.record.Record.{Record}
 use Rattle.wb_states.specs.Holds.{taken_as, building_after}
 use Rattle.wb_states.specs.Machine.{Machine, Key, IsRecord, IsConsistent, archs_of}
 use Rattle.wb_states.specs.Queue.{Entry, head_of}
-use Rattle.wb_states.specs.Subject.{Subject, Nothing, Source, Taken, Head, subject_of}
+use Rattle.wb_states.specs.Subject.{Subject, Nothing, Source, Taken, Head, Held, subject_of}
 use Rattle.wb_states.proofs.HoldLemmas.{held_of-in, building_after-is}
-use Rattle.wb_step.specs.Arguments.{Addition, Arch, Builder, Package, arguments_of}
-use Rattle.wb_step.specs.Checks.{source_in, source_named, take_in, take_named, is_there_already}
+use Rattle.wb_step.specs.Arguments.{Addition, Arch, Builder, Package, Removal, OfArch, OfBuilder, OfPackage}
+use Rattle.wb_step.specs.Arguments.{arguments_of}
+use Rattle.wb_step.specs.Checks.{builder_named, has_holder, is_held_on, is_on, is_still_held, source_in, source_named}
+use Rattle.wb_step.specs.Checks.{take_in, take_named, is_there_already}
 use Rattle.wb_step.specs.Targets.{again_of, first_named, next_in, next_named, record_named}
-use Rattle.wb_step.specs.Locality.{IsKept, IsPartOf, HasAllNamed}
+use Rattle.wb_step.specs.Locality.{IsKept, IsPartOf, IsSingle, HasAllNamed}
 use Rattle.wb_step.specs.Named.{listed, held_again, others_named, entries_named, pairs_sought, pairs_named, holder_pairs, part_named}
 use Rattle.wb_step.proofs.PartOfLemmas.{at_some, same_value, same_test, one_at, same_source_named}
 use Rattle.wb_step.proofs.TransitionLemmas.{first_named-stands}
@@ -144,6 +150,7 @@ kept_others machine Nothing entry h = absurd h
 kept_others machine (Source arch source) entry h = absurd h
 kept_others machine (Taken take_number) entry h = absurd h
 kept_others machine (Head next) entry h = kept_again machine next.builder next.after entry h
+kept_others machine (Held builder) entry h = ((held_of-in machine builder entry).0 h).0
 
 all_kept : (machine : Machine) (command : Command) (entry : Entry) → IsIn entry (entries_named machine command) → IsKept machine entry
 all_kept machine command entry h =
@@ -215,7 +222,7 @@ pairs_kept_by machine (Some (Package fields)) None pair h = absurd h
 pairs_kept_by machine None None pair h = absurd h
 
 pairs_kept : (machine : Machine) (command : Command) (pair : Key) → IsIn pair (pairs_named machine command) → IsTrue (set.contains machine.builders pair)
-pairs_kept machine command pair h = pairs_kept_by machine (arguments_of command).adds (arguments_of command).builder pair h
+pairs_kept machine command pair h = pairs_kept_by machine (arguments_of command).adds (builder_named command) pair h
 
 pub part_of_named : (machine : Machine) (command : Command) → IsConsistent machine → IsPartOf (part_named machine command) machine
 unfolding part_named
@@ -255,9 +262,11 @@ builder_among machine added (Some builder) is name arch named h =
     subst (λ b. IsIn {X = Key} (name, arch) (each (λ a. (b, a)) (archs_of machine b))) (sym (same_value builder name named)) (of_pair machine is name arch h)
 builder_among machine added None is name arch named h = absurd (not_some named)
 
-named_builder : (machine : Machine) (command : Command) → IsConsistent machine → (name arch : List ℕ) → (arguments_of command).builder ≡ Some name
+named_builder : (machine : Machine) (command : Command) → IsConsistent machine → (name arch : List ℕ)
+    → builder_named command ≡ Some name
     → IsTrue (set.contains machine.builders (name, arch)) → IsIn {X = Key} (name, arch) (pairs_named machine command)
-named_builder machine command is name arch named h = builder_among machine (arguments_of command).adds (arguments_of command).builder is name arch named h
+named_builder machine command is name arch named h = builder_among machine (arguments_of command).adds
+    (builder_named command) is name arch named h
 
 source_kept : (machine : Machine) (arch source : List ℕ) (key : Key) → Some (arch, source) ≡ Some key
     → IfSome (map.get machine.records key) (λ current. IsIn (key, current) (listed (record_named machine arch source) ++ []))
@@ -273,6 +282,7 @@ source_among machine (Source arch source) None key is = source_kept machine arch
 source_among machine (Source arch source) (Some added) key is = absurd (not_some is)
 source_among machine (Taken take_number) added key is = absurd (not_some is)
 source_among machine (Head next) added key is = absurd (not_some is)
+source_among machine (Held builder) added key is = absurd (not_some is)
 
 named_source : (machine : Machine) (command : Command) (key : Key) → source_named command ≡ Some key → IfSome (map.get machine.records key) (λ current. IsIn (key, current) (entries_named machine command))
 named_source machine command key is = source_among machine (subject_of command) (arguments_of command).adds key is
@@ -289,6 +299,7 @@ taken_among machine (Source arch source) take_number is = absurd (not_some is)
 taken_among machine (Taken number) take_number is =
     subst (λ t. IfSome (taken_as machine t) (λ entry. IsIn entry (listed (taken_as machine number) ++ []))) (same_value number take_number is) (first_among machine (Taken number))
 taken_among machine (Head next) take_number is = absurd (not_some is)
+taken_among machine (Held builder) take_number is = absurd (not_some is)
 
 named_taken : (machine : Machine) (command : Command) (take_number : ℕ) → take_named command ≡ Some take_number → IfSome (taken_as machine take_number) (λ entry. IsIn entry (entries_named machine command))
 named_taken machine command take_number is = taken_among machine (subject_of command) take_number is
@@ -298,6 +309,7 @@ head_among : (machine : Machine) (subject : Subject) (next : Next) → next_in s
 head_among machine Nothing next is = absurd (not_some is)
 head_among machine (Source arch source) next is = absurd (not_some is)
 head_among machine (Taken take_number) next is = absurd (not_some is)
+head_among machine (Held builder) next is = absurd (not_some is)
 head_among machine (Head asked) next is =
     subst (λ (n : Next). IfSome (head_of machine n.arch) (λ entry. IsIn entry (listed (head_of machine asked.arch) ++ held_again machine asked.builder asked.after))) (same_value asked next is)
     (first_among machine (Head asked))
@@ -320,6 +332,7 @@ again_among : (machine : Machine) (subject : Subject)
 again_among machine Nothing = tt
 again_among machine (Source arch source) = tt
 again_among machine (Taken take_number) = tt
+again_among machine (Held builder) = tt
 again_among machine (Head next) =
     weaker (option_and_then (building_after machine next.arch next.builder) next.after) (λ entry. joined_later entry (listed (head_of machine next.arch)) (held_again machine next.builder next.after))
     (again_held machine next.arch next.builder next.after)
@@ -338,13 +351,85 @@ named_there machine (of.Enter fields) is =
     (weaker (map.get machine.records (fields.arch, fields.source)) (λ current. kept_by_part machine (of.Enter fields) ((fields.arch, fields.source), current)) (source_kept machine fields.arch fields.source (fields.arch, fields.source) refl)))
 named_there machine _ is = refl
 
-builder_in_part : (machine : Machine) (command : Command) → IsConsistent machine → (name arch : List ℕ) → (arguments_of command).builder ≡ Some name → IsTrue (set.contains machine.builders (name, arch))
+builder_in_part : (machine : Machine) (command : Command) → IsConsistent machine → (name arch : List ℕ)
+    → builder_named command ≡ Some name → IsTrue (set.contains machine.builders (name, arch))
     → IsTrue (set.contains (part_named machine command).builders (name, arch))
 unfolding part_named
 builder_in_part machine command is name arch named h =
     in_set (name, arch) _ (joined_later _ (holder_pairs (entries_named machine command)) (pairs_named machine command) (named_builder machine command is name arch named h))
 
-pub part_has_all_named : (machine : Machine) (command : Command) → IsConsistent machine → (arguments_of command).imports ≡ None → HasAllNamed command (part_named machine command) machine
+-- one of a list that passes a test
+some_of : {X : Type 0} (p : X → Bool) (list : List X) → IsTrue (list_any p list) → (x : X) × IsIn x list × IsTrue (p x)
+some_of p [] one = absurd (no one) where
+  no : false ≡ true → ⊥
+  no e = cc
+some_of {X} p (x ∷ list) one =
+    elim (p x) as (λ b. p x ≡ b → (y : X) × IsIn y (x ∷ list) × IsTrue (p y)) [
+      | true ↦ λ passes. (x, inl refl, passes)
+      | false ↦ λ fails. let later = some_of p list (ap (λ b. b || list_any p list) (sym fails) ∙ one) in
+          (later.0, inr later.1, later.2)
+    ] refl
+
+passes_in : {X : Type 0} (p : X → Bool) (list : List X) (x : X) → IsIn x list → IsTrue (p x) → IsTrue (list_any p list)
+passes_in p [] x within passes = absurd within
+passes_in p (y ∷ list) x (inl same) passes = ap (λ b. b || list_any p list) (ap p (sym same) ∙ passes)
+passes_in p (y ∷ list) x (inr later) passes = ap (λ b. p y || b) (passes_in p list x later passes) ∙ or_last (p y) where
+  or_last : (b : Bool) → (b || true) ≡ true
+  or_last true = refl
+  or_last false = refl
+
+-- the records of a state are those that it keeps
+entries_kept : (machine : Machine) (entry : Entry) → IsIn entry (map.entries machine.records) ↔ IsKept machine entry
+entries_kept machine entry =
+    let found = IsIn-find pair_cmp_total pair_cmp-same entry (map.entries machine.records)
+    (map.entries_sorted machine.records) in (
+      λ within. map.get-entries machine.records entry.0 ∙ found.0 within,
+      λ kept.
+          found.1 (sym (map.get-entries machine.records entry.0) ∙ kept),
+    )
+
+held_by_is : (name : List ℕ) (holder : Option (List ℕ)) → has_value (bytes_eq name) holder ≡ true → holder ≡ Some name
+held_by_is name None h = cc
+held_by_is name (Some other) h = ap (λ n. Some n) (sym ((bytes_eq-Decides name other).0 h))
+
+no_arch : {A : Type 0} (name : List ℕ) → Some name ≡ None → A
+no_arch name e = cc
+
+-- what a command takes away is held in the part where it is held in the whole
+named_held : (machine : Machine) (command : Command) → IsConsistent machine → IsSingle command
+    → is_still_held (part_named machine command) command ≡ is_still_held machine command
+named_held machine (of.RemoveArch fields) is single = no_arch fields.name single.keeps
+named_held machine (of.RemoveBuilder fields) is single =
+    same_test (list_any test (map.entries part.records)) (list_any test (map.entries machine.records))
+    (λ one. let found = some_of test (map.entries part.records) one in
+    passes_in test (map.entries machine.records) found.0
+    ((entries_kept machine found.0).1 ((part_of_named machine asked is).records found.0
+    ((entries_kept part found.0).0 found.1))) found.2)
+    (λ one. let found = some_of test (map.entries machine.records) one in
+    let holder = held_by_is fields.name found.0.1.holder
+    (and_parts (is_on fields.arch found.0) (has_value (bytes_eq fields.name) found.0.1.holder) found.2).1 in
+    passes_in test (map.entries part.records) found.0
+    ((entries_kept part found.0).1 (kept_by_part machine asked found.0
+    ((held_of-in machine fields.name found.0).1 ((entries_kept machine found.0).0 found.1, holder)))) found.2)
+  where
+    asked : Command
+    asked = of.RemoveBuilder fields
+
+    part : Machine
+    part = part_named machine asked
+
+    test : Entry → Bool
+    test = is_held_on fields.arch fields.name
+named_held machine (of.Forget fields) is single =
+    ap (has_value has_holder) (same_source_named (part_named machine (of.Forget fields)) machine
+    (part_of_named machine (of.Forget fields) is) (fields.arch, fields.source)
+    (weaker (map.get machine.records (fields.arch, fields.source))
+    (λ current. kept_by_part machine (of.Forget fields) ((fields.arch, fields.source), current))
+    (source_kept machine fields.arch fields.source (fields.arch, fields.source) refl)))
+named_held machine _ is single = refl
+
+pub part_has_all_named : (machine : Machine) (command : Command) → IsConsistent machine → IsSingle command
+    → HasAllNamed command (part_named machine command) machine
 part_has_all_named machine command is single = record {
   builder = λ name arch named h. builder_in_part machine command is name arch named h;
   source = λ key named. weaker _ (λ current. kept_by_part machine command (key, current)) (named_source machine command key named);
@@ -352,5 +437,6 @@ part_has_all_named machine command is single = record {
   head = λ next named. weaker _ (kept_by_part machine command) (named_head machine command next named);
   again = weaker _ (kept_by_part machine command) (named_again machine command);
   there = named_there machine command is;
+  held = named_held machine command is single;
   single = single;
 }

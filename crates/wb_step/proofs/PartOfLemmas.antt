@@ -154,6 +154,7 @@ module _ (part whole : Machine) (within : IsPartOf part whole) where
     head = λ next is. same_head next.arch (has.head next is);
     again = same_again (next_named command) has.again;
     there = has.there;
+    held = has.held;
     single = has.single;
   }
     where

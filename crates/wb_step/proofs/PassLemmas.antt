@@ -5,7 +5,10 @@ use Rattle.wb_states.specs.declared.refusal.Refusal.{Refusal}
 use Rattle.wb_states.specs.declared.refusal.Refusal.TheVariants.{BadVersion, BadRelations}
 use Rattle.wb_states.specs.Machine.{Machine}
 use Rattle.deb_text.proofs.OptionLemmas.{option_or-None, first_some-None}
-use Rattle.wb_step.specs.Checks.{when, text_refusal, state_refusal, first_refusal, has_bad_name, version_fault, relation_fault, has_bad_number, has_long_text, repeats_arch, lacks_arch, lacks_builder, is_for_other_archs, is_ahead, is_not_held, lacks_source, refused_move, refused_report, is_there_already, is_spent, text_checks, state_checks}
+use Rattle.wb_step.specs.Checks.{when, text_refusal, state_refusal, first_refusal, has_bad_name, version_fault}
+use Rattle.wb_step.specs.Checks.{relation_fault, has_bad_number, has_long_text, repeats_arch, lacks_arch, lacks_builder}
+use Rattle.wb_step.specs.Checks.{is_for_other_archs, is_ahead, is_not_held, lacks_source, refused_move, refused_report}
+use Rattle.wb_step.specs.Checks.{is_there_already, is_still_held, is_spent, text_checks, state_checks}
 use Rattle.wb_step.specs.Targets.{again_of}
 use Rattle.wb_step.specs.Step.{outcome, step, state_after, counted}
 
@@ -34,6 +37,7 @@ pub record Passes (machine : Machine) (command : Command) : Type 0 where
   pub source : lacks_source machine command ≡ false
   pub move : refused_move machine command ≡ None
   pub there : is_there_already machine command ≡ false
+  pub unheld : is_still_held machine command ≡ false
   pub room : is_spent machine command ≡ false
 
 pub passes : (machine : Machine) (command : Command) → first_refusal machine command ≡ None → Passes machine command
@@ -59,7 +63,8 @@ passes machine command is =
       source = when-None _ _ later.1.0;
       move = later.1.1.1.0;
       there = when-None _ _ later.1.1.1.1.1.0;
-      room = when-None _ _ later.1.1.1.1.1.1.0;
+      unheld = when-None _ _ later.1.1.1.1.1.1.0;
+      room = when-None _ _ later.1.1.1.1.1.1.1.0;
     }
 
 -- what holds of the state, and of the state after a command that is accepted and done, holds of the state after a step

@@ -6,14 +6,16 @@ use Rattle.std.specs.Option.{option_or}
 use Rattle.deb_version.specs.declared.fault.VersionFault.{VersionFault}
 use Rattle.deb_version.specs.Syntax.{fault_of}
 use Rattle.deb_text.specs.Lists.{is_nonempty}
-use Rattle.wb_states.specs.Forms.{AddArch, AddBuilder, Enter}
+use Rattle.wb_states.specs.Forms.{AddArch, AddBuilder, Enter, RemoveBuilder}
 use Rattle.wb_states.specs.declared.refusal.Refusal.{Refusal}
-use Rattle.wb_states.specs.declared.refusal.Refusal.TheVariants.{UnknownArch, UnknownBuilder, WrongArch, AlreadyThere, BadName, BadVersion, Spent}
+use Rattle.wb_states.specs.declared.refusal.Refusal.TheVariants.{UnknownArch, UnknownBuilder, WrongArch, AlreadyThere}
+use Rattle.wb_states.specs.declared.refusal.Refusal.TheVariants.{BadName, BadVersion, StillHeld, Spent}
 use Rattle.wb_states.specs.Limits.{count_limit}
 use Rattle.wb_states.specs.Machine.{Machine, archs_of}
 use Rattle.deb_text.specs.Options.{first_some}
 use Rattle.wb_step.specs.Targets.{transition_of}
-use Rattle.wb_step.specs.Checks.{when, has_bad_name, lacks_arch, text_refusal, state_refusal, first_refusal, builder_refusal, key_refusal}
+use Rattle.wb_step.specs.Checks.{when, has_bad_name, is_for_other_archs, is_still_held, lacks_arch, lacks_builder}
+use Rattle.wb_step.specs.Checks.{text_refusal, state_refusal, first_refusal, builder_refusal, key_refusal}
 use Rattle.wb_states.specs.Names.{has_bad_key}
 
 pub first_refusal-AddArch : (machine : Machine) (name os cpu : List ℕ) (is_bad is_there is_full : Bool)
@@ -30,6 +32,23 @@ pub first_refusal-AddBuilder : (machine : Machine) (name arch : List ℕ) (is_ba
 unfolding first_refusal text_refusal state_refusal transition_of
 first_refusal-AddBuilder machine name arch is_bad is_unknown is_there is_full bad unknown there full =
     λ i. option_or (first_some (when (bad i) BadName ∷ [])) (first_some (when (unknown i) UnknownArch ∷ when (there i) AlreadyThere ∷ when (full i) Spent ∷ []))
+
+pub first_refusal-RemoveBuilder : (machine : Machine) (name arch : List ℕ)
+    (is_bad is_unknown has_none is_other is_held is_full : Bool)
+    → has_bad_name (RemoveBuilder name arch) ≡ is_bad → lacks_arch machine (RemoveBuilder name arch) ≡ is_unknown
+    → lacks_builder machine (RemoveBuilder name arch) ≡ has_none
+    → is_for_other_archs machine (RemoveBuilder name arch) ≡ is_other
+    → is_still_held machine (RemoveBuilder name arch) ≡ is_held → nat_le count_limit machine.accepted ≡ is_full
+    → first_refusal machine (RemoveBuilder name arch)
+    ≡ option_or (first_some (when is_bad BadName ∷ []))
+    (first_some (when is_unknown UnknownArch ∷ when has_none UnknownBuilder ∷ when is_other WrongArch ∷ when is_held
+    StillHeld ∷ when is_full Spent ∷ []))
+unfolding first_refusal text_refusal state_refusal transition_of
+first_refusal-RemoveBuilder machine name arch is_bad is_unknown has_none is_other is_held is_full bad unknown none other
+    held full =
+    λ i. option_or (first_some (when (bad i) BadName ∷ []))
+    (first_some (when (unknown i) UnknownArch ∷ when (none i) UnknownBuilder ∷ when (other i) WrongArch ∷ when (held i)
+    StillHeld ∷ when (full i) Spent ∷ []))
 
 pub first_refusal-Enter : (machine : Machine) (arch source version priority section : List ℕ) (is_bad : Bool) (fault : Option VersionFault) (is_unknown is_there is_full : Bool)
     → has_bad_name (Enter arch source version priority section) ≡ is_bad → fault_of version ≡ fault

@@ -20,7 +20,11 @@ use Rattle.wb_states.specs.declared.refusal.ListKind.{ListKind}
 use Rattle.wb_states.specs.declared.refusal.ListingFault.{ListingFault}
 use Rattle.wb_states.specs.declared.refusal.ListKind.TheVariants.{Packages, Sources}
 use Rattle.wb_states.specs.declared.refusal.Refusal.{Refusal}
-use Rattle.wb_states.specs.declared.refusal.Refusal.TheVariants.{AfterAhead, AlreadyThere, BadName, BadNumber, BadRelations, BadReport, BadVersion, NotHeld, OtherVersion, QueueEmpty, RepeatedArch, Spent, TextTooLong, UnknownArch, UnknownBuilder, UnknownSource, WrongArch, WrongState}
+use Rattle.wb_states.specs.declared.refusal.Refusal.TheVariants.{AfterAhead, AlreadyThere, BadName, BadNumber}
+use Rattle.wb_states.specs.declared.refusal.Refusal.TheVariants.{BadRelations, BadReport, BadVersion, NotHeld}
+use Rattle.wb_states.specs.declared.refusal.Refusal.TheVariants.{OtherVersion, QueueEmpty, RepeatedArch, Spent}
+use Rattle.wb_states.specs.declared.refusal.Refusal.TheVariants.{StillHeld, TextTooLong, UnknownArch, UnknownBuilder}
+use Rattle.wb_states.specs.declared.refusal.Refusal.TheVariants.{UnknownSource, WrongArch, WrongState}
 use Rattle.wb_states.specs.Machine.{Machine}
 use Rattle.wb_states.specs.Limits.{relations_limit}
 use Rattle.wb_states.specs.Moves.{may_go, move_refusal, value_refusal, waits_for, waits_refusal}
@@ -32,7 +36,11 @@ use Rattle.wb_merge.specs.Rows.{rows_behind, source_paragraph, source_rows}
 use Rattle.deb_control.specs.Lines.{lines_of, paragraphs_in}
 use Rattle.wb_merge.specs.Report.{first_bad_line, lines_in}
 use Rattle.wb_step.specs.Arguments.{Import, Lists, Lines, arguments_of}
-use Rattle.wb_step.specs.Checks.{differing, first_refusal, has_bad_name, has_bad_number, has_empty_queue, has_long_text, is_ahead, is_for_other_archs, is_not_held, is_spent, is_there_already, lacks_arch, lacks_builder, lacks_source, lines_refusal, lists_refusal, other_version_at, relation_fault, repeats_arch, source_named, state_checks, state_refusal, text_checks, text_refusal, version_fault, when}
+use Rattle.wb_step.specs.Checks.{differing, first_refusal, has_bad_name, has_bad_number, has_empty_queue, has_long_text}
+use Rattle.wb_step.specs.Checks.{is_ahead, is_for_other_archs, is_not_held, is_spent, is_still_held, is_there_already}
+use Rattle.wb_step.specs.Checks.{lacks_arch, lacks_builder, lacks_source, lines_refusal, lists_refusal}
+use Rattle.wb_step.specs.Checks.{other_version_at, relation_fault, repeats_arch, source_named, state_checks}
+use Rattle.wb_step.specs.Checks.{state_refusal, text_checks, text_refusal, version_fault, when}
 use Rattle.wb_step.specs.Parts.{listing_for, part_listing, parts_refusal, is_good}
 use Rattle.wb_step.specs.Step.{outcome, step}
 use Rattle.wb_step.specs.Targets.{again_of, transition_of}
@@ -212,8 +220,11 @@ state-state machine command = all-state (state_checks machine command) (
                     (
                       when-state (is_there_already machine command) AlreadyThere (refl, λ e. cc),
                       (
-                        when-state (is_spent machine command) Spent (refl, λ e. cc),
-                        tt,
+                        when-state (is_still_held machine command) StillHeld (refl, λ e. cc),
+                        (
+                          when-state (is_spent machine command) Spent (refl, λ e. cc),
+                          tt,
+                        ),
                       ),
                     ),
                   ),

@@ -1,5 +1,5 @@
 -- The entries of std's ordered maps and sets, as finite maps and sets.
-use Rattle.std.proofs.Common.{◌≡◌, ℕ, Bool, true, false, cond, List, map, refl, sym, ap, ◌∙◌, ◌||◌}
+use Rattle.std.proofs.Common.{◌≡◌, ℕ, Bool, true, false, cond, not, List, map, refl, sym, ap, ◌∙◌, ◌||◌, ◌&&◌}
 use Rattle.std.specs.declared.cmp.Ordering.{Ordering}
 use Rattle.std.specs.Cmp.{IsTotalOrder, eq_by_cmp_equiv}
 use Rattle.std.specs.Cmp.Lexicographic.{nat_list_cmp_total}
@@ -43,6 +43,22 @@ module _ {K : Type 0} {R : K → K → Ordering} (o : IsTotalOrder R) (same : fi
       set.contains-from_list o js q ∙ h q ∙ ap (λ b. cond b true (list_any (is_at (R q)) ks)) ((eq_by_cmp_equiv o).symm k q)
       ∙ or-cond (is_at (R q) k) (list_any (is_at (R q)) ks)
       ∙ sym (set.contains-insert o (set.from_list ks) k q ∙ ap (λ b. is_at (R q) k || b) (set.contains-from_list o ks q)))
+
+and-cond : (a b : Bool) → cond a false b ≡ (not a && b)
+and-cond true b = refl
+and-cond false b = refl
+
+module _ {K : Type 0} {R : K → K → Ordering} (o : IsTotalOrder R) (same : finite.IsAntisymmetric R) where
+  -- keys that lack one key alone make the set that lacks it
+  pub one-gone : (ks js : List K) (k : K)
+      → ((q : K) → list_any (is_at (R q)) js ≡ cond (is_at (R k) q) false (list_any (is_at (R q)) ks))
+      → set.from_list {R = R} js ≡ set.remove (set.from_list ks) k
+  one-gone ks js k h = set.same_set o same _ _ (λ q.
+      set.contains-from_list o js q ∙ h q ∙ ap (λ b. cond b false (list_any (is_at (R q)) ks))
+      ((eq_by_cmp_equiv o).symm k q)
+      ∙ and-cond (is_at (R q) k) (list_any (is_at (R q)) ks)
+      ∙ sym (set.contains-remove o (set.from_list ks) k q
+      ∙ ap (λ b. not (is_at (R q) k) && b) (set.contains-from_list o ks q)))
 
 -- what an iteration over the records gives
 pub records-iterated : (inside : Inside) (machine : Machine) → the_view inside ≡ machine → IsStrictlySortedBy pair_cmp (map (λ e. e.0) inside.records.entries)

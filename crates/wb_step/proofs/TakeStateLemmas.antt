@@ -33,6 +33,8 @@ use Rattle.wb_step.proofs.MergedLemmas.{records_after-keeps}
 use Rattle.wb_step.proofs.ReportingLemmas.{line-takes, reported-keeps}
 use Rattle.wb_step.proofs.TransitionLemmas.{transition_of-may}
 use Rattle.wb_step.proofs.PassLemmas.{step-either}
+use Rattle.wb_step.proofs.RemovalLemmas.{removing_all}
+use Rattle.wb_step.specs.Arguments.{OfArch, OfPackage}
 
 -- a move that is allowed may go from the record's state
 pub allowed-from : (move : Move) (current : Record) → move_refusal move current ≡ None → may_go move current.state ≡ true
@@ -139,6 +141,11 @@ after_priority-takes machine key value old = at (map.get machine.records key) (o
 state_after-takes : (machine : Machine) (command : Command) → HasTakesByState machine → refused_move machine command ≡ None → HasTakesByState (state_after machine command)
 state_after-takes machine (of.AddArch fields) old allowed = old
 state_after-takes machine (of.AddBuilder fields) old allowed = old
+state_after-takes machine (of.RemoveArch fields) old allowed = removing_all (λ key. HasTakeByState) machine
+    (OfArch fields) old
+state_after-takes machine (of.RemoveBuilder fields) old allowed = old
+state_after-takes machine (of.Forget fields) old allowed = removing_all (λ key. HasTakeByState) machine
+    (OfPackage fields) old
 state_after-takes machine (of.Enter fields) old allowed =
     insert_all pair_cmp_total pair_cmp-same (λ key. HasTakeByState) machine.records (fields.arch, fields.source) (entered fields.version fields.priority fields.section) refl old
 state_after-takes machine (of.Merge fields) old allowed =

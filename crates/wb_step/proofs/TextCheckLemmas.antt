@@ -1,6 +1,7 @@
 -- What a check of a command's texts says, from what its parts say.
 use Rattle.std.specs.Option.{option_or}
-use Rattle.std.proofs.Common.{◌≡◌, ◌||◌, Bool, true, false, [], ◌∷◌, Option, Some, None, Result, Ok, Err, IfErr, OnOk, nat_lt, length, option_map, refl, sym, ap, subst, ◌∙◌}
+use Rattle.std.proofs.Common.{◌≡◌, ◌||◌, Bool, true, false, [], ◌∷◌, Option, Some, None, Result, Ok, Err, IfErr, OnOk}
+use Rattle.std.proofs.Common.{nat_lt, length, not, option_map, refl, sym, ap, subst, ◌∙◌}
 use Rattle.deb_text.specs.Options.{first_some}
 use Rattle.wb_states.specs.declared.command.Command.{Command}
 use Rattle.wb_states.specs.declared.command.Command.TheVariants as of
@@ -8,6 +9,7 @@ use Rattle.wb_states.specs.declared.command.AddArch.{AddArch}
 use Rattle.wb_states.specs.declared.command.AddBuilder.{AddBuilder}
 use Rattle.wb_states.specs.declared.command.DepWait.{DepWait}
 use Rattle.wb_states.specs.declared.command.Enter.{Enter}
+use Rattle.wb_states.specs.declared.command.Forget.{Forget}
 use Rattle.wb_states.specs.declared.command.GiveBack.{GiveBack}
 use Rattle.wb_states.specs.declared.command.Held.{Held}
 use Rattle.wb_states.specs.declared.command.Next.{Next}
@@ -17,13 +19,15 @@ use Rattle.wb_states.specs.declared.command.Attempted.{Attempted}
 use Rattle.wb_states.specs.declared.command.Rebuild.{Rebuild}
 use Rattle.wb_states.specs.declared.command.BuildPriority.{BuildPriority}
 use Rattle.wb_states.specs.declared.command.Merge.{Merge}
+use Rattle.wb_states.specs.declared.command.RemoveArch.{RemoveArch}
+use Rattle.wb_states.specs.declared.command.RemoveBuilder.{RemoveBuilder}
 use Rattle.wb_states.specs.declared.command.SetAside.{SetAside}
 use Rattle.wb_states.specs.declared.refusal.Refusal.{Refusal}
 use Rattle.wb_states.specs.declared.refusal.Refusal.TheVariants.{BadName, BadNumber, BadRelations, Memory, RepeatedArch, TextTooLong}
 use Rattle.wb_states.specs.Limits.{relations_limit}
 use Rattle.wb_states.specs.Refusals.{IsOfMachine}
 use Rattle.wb_step.specs.Checks.{aside_refusal, has_bad_arch, has_bad_builder, has_bad_entry, has_bad_part, has_bad_request, has_bad_take, has_long_relations, has_repeated_arch, is_bad_number, is_bad_priority, is_long_text, key_refusal, relations_fault, relations_refusal, text_refusal, version_refusal, when}
-use Rattle.wb_states.specs.Names.{has_bad_key}
+use Rattle.wb_states.specs.Names.{has_bad_key, is_arch_name}
 use Rattle.wb_step.specs.TextChecks.{ChecksTexts, Tells}
 use Rattle.wb_step.proofs.WantLemmas.{key-wanted, want-DepWait, want-text, want-Waits}
 
@@ -80,6 +84,21 @@ text-AddArch fields = sym (or_none _)
 pub text-AddBuilder : (fields : AddBuilder) → when (has_bad_builder fields.name fields.arch) BadName ≡ text_refusal (of.AddBuilder fields)
 unfolding text_refusal
 text-AddBuilder fields = sym (or_none _)
+
+pub text-RemoveArch : (fields : RemoveArch) → when (not (is_arch_name fields.name)) BadName ≡ text_refusal
+    (of.RemoveArch fields)
+unfolding text_refusal
+text-RemoveArch fields = sym (or_none _)
+
+pub text-RemoveBuilder : (fields : RemoveBuilder) → when (has_bad_builder fields.name fields.arch) BadName ≡
+    text_refusal (of.RemoveBuilder fields)
+unfolding text_refusal
+text-RemoveBuilder fields = sym (or_none _)
+
+pub text-Forget : (fields : Forget) → key_refusal fields.arch fields.source fields.version ≡ text_refusal
+    (of.Forget fields)
+unfolding text_refusal
+text-Forget fields = refl
 
 pub text-Enter : (fields : Enter) → first_some (when (has_bad_entry fields.arch fields.source fields.priority fields.section) BadName ∷ version_refusal fields.version ∷ []) ≡ text_refusal (of.Enter fields)
 unfolding text_refusal

@@ -7,7 +7,7 @@ use Rattle.wb_states.specs.Holds.{is_taken_as, taken_as}
 use Rattle.wb_states.specs.Machine.{Machine, arch_words}
 use Rattle.wb_states.specs.Moves.{move_refusal}
 use Rattle.wb_states.specs.Queue.{Entry}
-use Rattle.wb_states.specs.Subject.{Subject, Nothing, Source, Taken, Head, subject_of}
+use Rattle.wb_states.specs.Subject.{Subject, Nothing, Source, Taken, Head, Held, subject_of}
 use Rattle.deb_text.specs.Lists.{first_of, IsIn}
 use Rattle.deb_text.proofs.KeyLemmas.{pair_cmp_total, pair_cmp-same}
 use Rattle.wb_states.proofs.QueueLemmas.{head_of-waits}
@@ -57,6 +57,7 @@ first_named-stands machine Nothing entry is = cc
 first_named-stands machine (Source arch source) entry is = (record_named-is machine arch source entry is).0
 first_named-stands machine (Taken take_number) entry is = taken_as-stands machine take_number entry is
 first_named-stands machine (Head next) entry is = (head_of-waits machine next.arch entry is).0
+first_named-stands machine (Held builder) entry is = cc
 
 -- a value that is made of another is made of one that is there
 and_then-Some : {X Y : Type 0} (f : X → Option Y) (found : Option X) (y : Y) → option_and_then f found ≡ Some y → (x : X) × ((found ≡ Some x) × (f x ≡ Some y))

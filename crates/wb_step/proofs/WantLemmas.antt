@@ -3,7 +3,8 @@ use Rattle.std.specs.Option.{option_or}
 use Rattle.std.proofs.Common.{◌≡◌, ℕ, ◌||◌, Bool, true, false, nat_eq, nat_lt, length, List, [], ◌∷◌, Option, Some, None, Result, Ok, Err, IfErr, refl, ap, ◌∙◌, option_map, option_and_then, cond}
 use Rattle.deb_version.specs.declared.fault.VersionFault.{VersionFault}
 use Rattle.deb_version.specs.Syntax.{fault_of}
-use Rattle.wb_states.specs.Forms.{AddArch, AddBuilder, Enter, Next, Take, Attempted, Built, Uploaded, Waits, PutBack, GiveBack, DepWait, Rebuild}
+use Rattle.wb_states.specs.Forms.{AddArch, AddBuilder, Enter, Next, Take, Attempted, Built, Uploaded, Waits, PutBack}
+use Rattle.wb_states.specs.Forms.{GiveBack, DepWait, Rebuild, Forget, RemoveBuilder}
 use Rattle.wb_states.specs.declared.command.Command.{Command}
 use Rattle.wb_states.specs.declared.refusal.Refusal.{Refusal}
 use Rattle.wb_states.specs.declared.refusal.Refusal.TheVariants.{Memory, BadName, BadVersion}
@@ -75,6 +76,12 @@ want-AddBuilder machine name arch is =
     let pass = passes machine (AddBuilder name arch) is in
     record { names = pass.names; version = refl; relations = refl; number = refl; short = refl; parts = refl; report = refl }
 
+pub want-RemoveBuilder : (machine : Machine) (name arch : List ℕ)
+    → first_refusal machine (RemoveBuilder name arch) ≡ None → MayWantMemory (RemoveBuilder name arch)
+want-RemoveBuilder machine name arch is =
+    let pass = passes machine (RemoveBuilder name arch) is in
+    record { names = pass.names; version = refl; relations = refl; number = refl; short = refl; parts = refl; report = refl }
+
 pub want-Enter : (machine : Machine) (arch source version priority section : List ℕ) → first_refusal machine (Enter arch source version priority section) ≡ None
     → MayWantMemory (Enter arch source version priority section)
 want-Enter machine arch source version priority section is =
@@ -111,6 +118,12 @@ want-Waits take_number relations short =
 
 pub want-GiveBack : (arch source version : List ℕ) → key_refusal arch source version ≡ None → MayWantMemory (GiveBack arch source version)
 want-GiveBack arch source version key =
+    let good = key-good arch source version key in
+    record { names = good.0; version = good.1; relations = refl; number = refl; short = refl; parts = refl; report = refl }
+
+pub want-Forget : (arch source version : List ℕ) → key_refusal arch source version ≡ None
+    → MayWantMemory (Forget arch source version)
+want-Forget arch source version key =
     let good = key-good arch source version key in
     record { names = good.0; version = good.1; relations = refl; number = refl; short = refl; parts = refl; report = refl }
 

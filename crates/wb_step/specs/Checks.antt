@@ -1,5 +1,6 @@
 -- The checks of a command, in the one order in which they are answered.
-use Rattle.std.specs.Prelude.{◌≡◌, ℕ, ℤ, Bool, true, false, not, ◌||◌, ◌&&◌, nat_le, nat_lt, nat_eq, List, [], ◌∷◌, length, bytes_eq, Option, Some, None, is_none, option_and_then, if◌then◌else◌}
+use Rattle.std.specs.Prelude.{◌≡◌, ℕ, ℤ, Bool, true, false, not, ◌||◌, ◌&&◌, nat_le, nat_lt, nat_eq, List, [], ◌∷◌}
+use Rattle.std.specs.Prelude.{length, bytes_eq, Option, Some, None, is_none, is_some, option_and_then, if◌then◌else◌}
 use Rattle.std.specs.Result.{result_err}
 use Rattle.std.specs.Option.{option_map, option_or}
 use Rattle.std.specs.List.{list_any}
@@ -17,17 +18,22 @@ use Rattle.wb_states.specs.declared.command.Merge.{Merge}
 use Rattle.wb_states.specs.declared.command.Part.{Part}
 use Rattle.wb_states.specs.declared.record.Record.{Record}
 use Rattle.wb_states.specs.declared.refusal.Refusal.{Refusal}
-use Rattle.wb_states.specs.declared.refusal.Refusal.TheVariants.{UnknownArch, UnknownBuilder, WrongArch, UnknownSource, OtherVersion, QueueEmpty, NotHeld, AfterAhead, AlreadyThere, BadName, BadVersion, BadRelations, BadNumber, BadReport, TextTooLong, Spent, RepeatedArch, Memory}
-use Rattle.wb_states.specs.Holds.{taken_as}
+use Rattle.wb_states.specs.declared.refusal.Refusal.TheVariants.{UnknownArch, UnknownBuilder, WrongArch, UnknownSource}
+use Rattle.wb_states.specs.declared.refusal.Refusal.TheVariants.{OtherVersion, QueueEmpty, NotHeld, AfterAhead}
+use Rattle.wb_states.specs.declared.refusal.Refusal.TheVariants.{AlreadyThere, BadName, BadVersion, BadRelations}
+use Rattle.wb_states.specs.declared.refusal.Refusal.TheVariants.{BadNumber, BadReport, TextTooLong, Spent, RepeatedArch}
+use Rattle.wb_states.specs.declared.refusal.Refusal.TheVariants.{StillHeld, Memory}
+use Rattle.wb_states.specs.Holds.{is_held_by, taken_as}
 use Rattle.deb_text.specs.Options.{has_value, first_some}
 use Rattle.wb_states.specs.Limits.{count_limit, is_build_priority, note_limit, rebuild_limit, relations_limit}
 use Rattle.wb_states.specs.Machine.{Machine, is_unknown_arch, is_unknown_builder}
 use Rattle.wb_states.specs.Moves.{move_refusal}
 use Rattle.deb_relations.specs.Names.{is_package_name}
 use Rattle.wb_states.specs.Names.{has_bad_key, is_arch_name, is_os_cpu_word, is_builder_name, is_label_text}
-use Rattle.wb_states.specs.Queue.{head_of}
-use Rattle.wb_states.specs.Subject.{Subject, Nothing, Source, Taken, Head, subject_of}
-use Rattle.wb_step.specs.Arguments.{Addition, Arch, Builder, Package, Import, Lists, Lines, arguments_of}
+use Rattle.wb_states.specs.Queue.{Entry, head_of}
+use Rattle.wb_states.specs.Subject.{Subject, Nothing, Source, Taken, Head, Held, subject_of}
+use Rattle.wb_step.specs.Arguments.{Addition, Arch, Builder, Package, Removal, OfArch, OfBuilder, OfPackage, Import}
+use Rattle.wb_step.specs.Arguments.{Lists, Lines, arguments_of}
 use Rattle.wb_step.specs.Targets.{again_of, next_named, transition_of}
 use Rattle.wb_merge.specs.Report.{first_bad_line, lines_in, report_takes_memory}
 use Rattle.wb_step.specs.Parts.{parts_refusal}
@@ -114,6 +120,12 @@ has_bad_form (Arch fields) = has_bad_arch fields.name fields.os fields.cpu
 has_bad_form (Builder fields) = has_bad_builder fields.name fields.arch
 has_bad_form (Package fields) = has_bad_entry fields.arch fields.source fields.priority fields.section
 
+-- what is taken away has a name that is malformed
+abbrev pub has_bad_removal : Removal → Bool
+has_bad_removal (OfArch fields) = not (is_arch_name fields.name)
+has_bad_removal (OfBuilder fields) = has_bad_builder fields.name fields.arch
+has_bad_removal (OfPackage fields) = has_bad_key fields.arch fields.source
+
 -- a name by which records are named is malformed, of a source package or of a queue, or that of the builder that asks
 abbrev pub has_bad_subject : Subject → Option (List ℕ) → Bool
 has_bad_subject Nothing builder = false
@@ -121,22 +133,27 @@ has_bad_subject (Source arch source) None = has_bad_key arch source
 has_bad_subject (Source arch source) (Some builder) = has_bad_take arch builder source
 has_bad_subject (Taken take_number) builder = false
 has_bad_subject (Head next) builder = has_bad_request next.arch next.builder
+has_bad_subject (Held name) builder = false
 
 -- the architecture of a part of a merge, or of a report, is malformed
 abbrev pub has_bad_arch_name : Import → Bool
 has_bad_arch_name (Lists merge) = has_bad_part merge.parts
 has_bad_arch_name (Lines report) = not (is_arch_name report.arch)
 
--- a name, a priority or a section is malformed of what is added, of what is imported, or else of what is named
-abbrev pub has_bad_name_by : Option Addition → Option Import → Subject → Option (List ℕ) → Bool
-has_bad_name_by (Some added) imports subject builder = has_bad_form added
-has_bad_name_by None (Some imported) subject builder = has_bad_arch_name imported
-has_bad_name_by None None subject builder = has_bad_subject subject builder
+-- a name, a priority or a section is malformed of what is added, of what is taken away, of what is imported, or else of
+-- what is named
+abbrev pub has_bad_name_by : Option Addition → Option Removal → Option Import → Subject → Option (List ℕ) → Bool
+has_bad_name_by (Some added) removed imports subject builder = has_bad_form added
+has_bad_name_by None (Some removed) imports subject builder = has_bad_removal removed
+has_bad_name_by None None (Some imported) subject builder = has_bad_arch_name imported
+has_bad_name_by None None None subject builder = has_bad_subject subject builder
 
 -- a name, a priority or a section of the command is malformed
 abbrev pub has_bad_name : Command → Bool
 has_bad_name command =
-    has_bad_name_by (arguments_of command).adds (arguments_of command).imports (subject_of command) (arguments_of command).builder
+    has_bad_name_by (arguments_of command).adds (arguments_of command).removes (arguments_of command).imports
+    (subject_of command)
+    (arguments_of command).builder
 
 -- the fault of the command's version
 abbrev pub version_fault : Command → Option VersionFault
@@ -232,14 +249,23 @@ lists_refusal machine (Lines report) = None
 abbrev pub merge_refusal : Machine → Command → Option Refusal
 merge_refusal machine command = option_and_then (lists_refusal machine) (arguments_of command).imports
 
+-- the builder that is taken from an architecture, or else this one
+abbrev pub builder_in : Option Removal → Option (List ℕ) → Option (List ℕ)
+builder_in (Some (OfBuilder fields)) builder = Some fields.name
+builder_in removed builder = builder
+
+-- the builder that must build for its architecture: the one that is handed a record, or that is taken from there
+abbrev pub builder_named : Command → Option (List ℕ)
+builder_named command = builder_in (arguments_of command).removes (arguments_of command).builder
+
 -- its builder was added for no architecture
 abbrev pub lacks_builder : Machine → Command → Bool
-lacks_builder machine command = has_value (is_unknown_builder machine) (arguments_of command).builder
+lacks_builder machine command = has_value (is_unknown_builder machine) (builder_named command)
 
 -- its builder was not added for its architecture
 abbrev pub is_for_other_archs : Machine → Command → Bool
 is_for_other_archs machine command =
-    has_value (λ arch. has_value (is_for_others machine arch) (arguments_of command).builder) (arguments_of command).arch
+    has_value (λ arch. has_value (is_for_others machine arch) (builder_named command)) (arguments_of command).arch
 
 -- it asks after a take number that was not given yet
 abbrev pub is_ahead : Machine → Command → Bool
@@ -263,11 +289,11 @@ abbrev pub source_in : Subject → Option Addition → Option (List ℕ × List 
 source_in (Source arch source) None = Some (arch, source)
 source_in subject added = None
 
--- the record that the command moves or gives a build priority, by its architecture and source package
+-- the record that the command moves, gives a build priority or takes away, by its architecture and source package
 abbrev pub source_named : Command → Option (List ℕ × List ℕ)
 source_named command = source_in (subject_of command) (arguments_of command).adds
 
--- there is no record that the command could move or give a build priority
+-- there is no record that the command could move, give a build priority or take away
 abbrev pub lacks_source : Machine → Command → Bool
 lacks_source machine command = has_value (is_unknown_source machine) (source_named command)
 
@@ -296,6 +322,30 @@ is_there machine (Package fields) = map.contains_key machine.records (fields.arc
 -- what it adds is there already
 abbrev pub is_there_already : Machine → Command → Bool
 is_there_already machine command = has_value (is_there machine) (arguments_of command).adds
+
+-- a record of the architecture
+abbrev pub is_on : List ℕ → Entry → Bool
+is_on arch entry = bytes_eq entry.0.0 arch
+
+-- a record that a builder holds
+abbrev pub has_holder : Record → Bool
+has_holder current = is_some current.holder
+
+-- a record of the architecture that the builder holds
+abbrev pub is_held_on : List ℕ → List ℕ → Entry → Bool
+is_held_on arch builder entry = is_on arch entry && is_held_by builder entry
+
+-- a builder holds what is taken away: a record of the architecture, one of the architecture that the builder holds, or
+-- the record of the source package
+abbrev pub is_held : Machine → Removal → Bool
+is_held machine (OfArch fields) = list_any (λ (entry : Entry). is_on fields.name entry && has_holder entry.1)
+    (map.entries machine.records)
+is_held machine (OfBuilder fields) = list_any (is_held_on fields.arch fields.name) (map.entries machine.records)
+is_held machine (OfPackage fields) = has_value has_holder (map.get machine.records (fields.arch, fields.source))
+
+-- what it takes away is held
+abbrev pub is_still_held : Machine → Command → Bool
+is_still_held machine command = has_value (is_held machine) (arguments_of command).removes
 
 -- a count is at its limit: that of accepted commands, or for a builder that of take numbers
 abbrev pub has_full_count : Machine → Option (List ℕ) → Bool
@@ -338,6 +388,7 @@ state_checks machine command =
     ∷ refused_move machine command
     ∷ when (has_empty_queue machine command) QueueEmpty
     ∷ when (is_there_already machine command) AlreadyThere
+    ∷ when (is_still_held machine command) StillHeld
     ∷ when (is_spent machine command) Spent
     ∷ []
 

@@ -5,7 +5,8 @@ use Rattle.wb_states.specs.declared.moves.Move.{Move}
 use Rattle.wb_states.specs.declared.moves.Move.TheVariants as to
 use Rattle.wb_states.specs.declared.record.Record.{Record}
 use Rattle.wb_states.specs.declared.refusal.Refusal.{Refusal}
-use Rattle.wb_states.specs.declared.refusal.Refusal.TheVariants.{UnknownArch, UnknownSource, NotHeld, QueueEmpty, Spent}
+use Rattle.wb_states.specs.declared.refusal.Refusal.TheVariants.{UnknownArch, UnknownSource, NotHeld, QueueEmpty}
+use Rattle.wb_states.specs.declared.refusal.Refusal.TheVariants.{StillHeld, Spent}
 use Rattle.wb_states.specs.declared.reply.Reply.TheVariants.{Done}
 use Rattle.wb_states.specs.declared.reply.Assignment.{Assignment}
 use Rattle.wb_states.specs.Holds.{taken_as, take_of}
@@ -14,7 +15,7 @@ use Rattle.wb_states.specs.Machine.{Machine}
 use Rattle.wb_states.specs.Moves.{move_refusal}
 use Rattle.wb_states.specs.Queue.{Entry, head_of}
 use Rattle.deb_text.specs.Options.{first_some}
-use Rattle.wb_step.specs.Checks.{builder_refusal, differing, when}
+use Rattle.wb_step.specs.Checks.{builder_refusal, differing, has_holder, when}
 use Rattle.wb_states.specs.Machine.{is_unknown_arch}
 use Rattle.wb_step.specs.Step.{Outcome, assignment_of, counted, after_move, after_priority, after_take, assignment_reply}
 
@@ -43,6 +44,18 @@ unfoldable pub priority_step : Machine → Entry → ℤ → Outcome
 priority_step machine entry value =
     outcome_unless (when (nat_le count_limit machine.accepted) Spent) machine
     (Ok (Done (machine.accepted + 1)), counted machine (after_priority machine entry.0 value (Some entry.1)))
+
+-- a record goes that nobody holds, and the command is counted, if the count is not refused
+unfoldable pub forget_step : Machine → Entry → Outcome
+forget_step machine entry =
+    outcome_unless (first_some (
+    when (has_holder entry.1) StillHeld
+    ∷ when (nat_le count_limit machine.accepted) Spent
+    ∷ [])) machine (
+      Ok (Done (machine.accepted + 1)),
+      counted machine (record machine
+          { records = map.remove machine.records entry.0 }),
+    )
 
 -- the move by which a builder takes a record, under the take number after the last
 abbrev pub take_move : Machine → List ℕ → Move
@@ -102,3 +115,8 @@ take_step machine arch builder source version =
 abbrev pub prioritized_step : Machine → List ℕ → List ℕ → List ℕ → ℤ → Outcome
 prioritized_step machine arch source version value =
     sought_step (when (is_unknown_arch machine arch) UnknownArch) machine arch source version (λ entry. priority_step machine entry value)
+
+-- the record of a source package goes, if it is of the version and nobody holds it
+abbrev pub forgotten_step : Machine → List ℕ → List ℕ → List ℕ → Outcome
+forgotten_step machine arch source version =
+    sought_step (when (is_unknown_arch machine arch) UnknownArch) machine arch source version (forget_step machine)

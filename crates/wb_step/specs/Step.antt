@@ -1,5 +1,5 @@
 -- What a command does to the office: the reply or the refusal, and the state after it.
-use Rattle.std.specs.Prelude.{ℕ, ℤ, ◌+◌, List, [], Option, Some, None, Result, Ok, Err}
+use Rattle.std.specs.Prelude.{ℕ, ℤ, ◌+◌, not, bytes_eq, List, [], Option, Some, None, Result, Ok, Err}
 use Rattle.std.specs.FinMap as map
 use Rattle.std.specs.FinSet as set
 use Rattle.wb_states.specs.declared.command.Command.{Command}
@@ -17,7 +17,8 @@ use Rattle.wb_merge.specs.Merge.{blank_record}
 use Rattle.wb_merge.specs.Merged.{Records}
 use Rattle.wb_merge.specs.Report.{Lines as LinesOf, by_source, lines_in}
 use Rattle.wb_merge.specs.Reported.{number_reported, records_reported}
-use Rattle.wb_step.specs.Arguments.{Addition, Arch, Builder, Package, Import, Lists, Lines, arguments_of}
+use Rattle.wb_step.specs.Arguments.{Addition, Arch, Builder, Package, Removal, OfArch, OfBuilder, OfPackage, Import}
+use Rattle.wb_step.specs.Arguments.{Lists, Lines, arguments_of}
 use Rattle.wb_step.specs.Checks.{first_refusal, source_named}
 use Rattle.wb_step.specs.Targets.{again_of, transition_of, target_of}
 use Rattle.wb_step.specs.Parts.{part_replies, records_after}
@@ -57,6 +58,19 @@ after_adding machine (Builder fields) = record machine { builders = set.insert m
 after_adding machine (Package fields) =
     record machine { records = map.insert machine.records (fields.arch, fields.source) (entered fields.version fields.priority fields.section) }
 
+-- the state without what is taken away
+abbrev pub after_removing : Machine → Removal → Machine
+after_removing machine (OfArch fields) =
+    record machine {
+      records = map.retain_keys machine.records (λ key. not (bytes_eq key.0 fields.name));
+      archs = map.remove machine.archs fields.name;
+      builders = set.retain machine.builders (λ pair. not (bytes_eq pair.1 fields.name));
+    }
+after_removing machine (OfBuilder fields) = record machine
+    { builders = set.remove machine.builders (fields.name, fields.arch) }
+after_removing machine (OfPackage fields) = record machine
+    { records = map.remove machine.records (fields.arch, fields.source) }
+
 -- the state after a move, under a new take number if a builder is handed the record
 abbrev pub after_moving : Machine → Option (List ℕ) → Option (Entry × Move) → Machine
 after_moving machine None asked = after_move machine asked
@@ -76,18 +90,22 @@ abbrev pub records_imported : Machine → Import → Records
 records_imported machine (Lists merge) = records_after machine merge.sources merge.parts machine.records
 records_imported machine (Lines report) = records_reported machine.records report.arch (lines_said report.text)
 
--- the state after a command that adds this, or else imports this, or else gives this build priority, or else moves a
--- record
-abbrev pub state_by : Machine → Command → Option Addition → Option Import → Option ℤ → Machine
-state_by machine command (Some added) imports value = after_adding machine added
-state_by machine command None (Some imported) value = record machine { records = records_imported machine imported }
-state_by machine command None None (Some value) = after_value machine value (source_named command)
-state_by machine command None None None = after_moving machine (arguments_of command).builder (transition_of machine command)
+-- the state after a command that adds this, or else takes this away, or else imports this, or else gives this build
+-- priority, or else moves a record
+abbrev pub state_by : Machine → Command → Option Addition → Option Removal → Option Import → Option ℤ → Machine
+state_by machine command (Some added) removed imports value = after_adding machine added
+state_by machine command None (Some removed) imports value = after_removing machine removed
+state_by machine command None None (Some imported) value = record machine
+    { records = records_imported machine imported }
+state_by machine command None None None (Some value) = after_value machine value (source_named command)
+state_by machine command None None None None = after_moving machine (arguments_of command).builder
+    (transition_of machine command)
 
 -- the state after a command
 abbrev pub state_after : Machine → Command → Machine
 state_after machine command =
-    state_by machine command (arguments_of command).adds (arguments_of command).imports (arguments_of command).build_priority
+    state_by machine command (arguments_of command).adds (arguments_of command).removes (arguments_of command).imports
+    (arguments_of command).build_priority
 
 -- ---- the reply to a command that is accepted
 

@@ -14,21 +14,22 @@ use Rattle.wb_states.specs.declared.moves.Move.TheVariants as to
 use Rattle.wb_states.specs.Holds.{taken_as, building_after}
 use Rattle.wb_states.specs.Machine.{Machine, arch_words}
 use Rattle.wb_states.specs.Queue.{Entry, head_of}
-use Rattle.wb_states.specs.Subject.{Subject, Nothing, Source, Taken, Head, subject_of}
+use Rattle.wb_states.specs.Subject.{Subject, Nothing, Source, Taken, Head, Held, subject_of}
 use Rattle.wb_merge.specs.Report.{by_source, lines_in}
-use Rattle.wb_step.specs.Arguments.{Import, Lists, Lines, arguments_of}
+use Rattle.wb_step.specs.Arguments.{Import, Lists, Lines, Removal, OfArch, OfBuilder, OfPackage, arguments_of}
 
 -- the record of a source package, with its key
 unfoldable pub record_named : Machine → List ℕ → List ℕ → Option Entry
 record_named machine arch source = option_map (λ current. ((arch, source), current)) (map.get machine.records (arch, source))
 
 -- the record by which what a command names is found: of a source package, under a take number, or at the head of a
--- queue
+-- queue; of what a builder holds, none alone
 abbrev pub first_named : Machine → Subject → Option Entry
 first_named machine Nothing = None
 first_named machine (Source arch source) = record_named machine arch source
 first_named machine (Taken take_number) = taken_as machine take_number
 first_named machine (Head next) = head_of machine next.arch
+first_named machine (Held builder) = None
 
 -- a move that is the same on each architecture
 abbrev pub on_each : Move → Option (ArchWords → Move)
@@ -38,6 +39,8 @@ on_each move = Some (λ words. move)
 abbrev pub move_of : Machine → Command → Option (ArchWords → Move)
 move_of machine (of.AddArch fields) = None
 move_of machine (of.AddBuilder fields) = None
+move_of machine (of.RemoveArch fields) = None
+move_of machine (of.RemoveBuilder fields) = None
 move_of machine (of.Enter fields) = None
 move_of machine (of.Next fields) = on_each (to.Take fields.builder (machine.handed + 1))
 move_of machine (of.Take fields) = on_each (to.Take fields.builder (machine.handed + 1))
@@ -52,6 +55,7 @@ move_of machine (of.Fail fields) = on_each (to.Fail fields.note)
 move_of machine (of.NotForUs fields) = on_each (to.NotForUs fields.note)
 move_of machine (of.Rebuild fields) = on_each (to.Rebuild fields.number fields.message)
 move_of machine (of.BuildPriority fields) = None
+move_of machine (of.Forget fields) = None
 move_of machine (of.Merge fields) = None
 move_of machine (of.Report fields) = None
 
@@ -97,15 +101,31 @@ abbrev pub MayImport : Import → List ℕ × List ℕ → Type 0
 MayImport (Lists merge) key = IsTrue (list_any (λ part. bytes_eq key.0 part.arch) merge.parts)
 MayImport (Lines report) key = IsTrue (bytes_eq key.0 report.arch && map.contains_key (by_source (lines_in report.text)) key.1)
 
--- a command that makes no move may change the record at a key: that of the source package that it names, or those that
--- it imports
-abbrev pub MayPut : Subject → Option Import → List ℕ × List ℕ → Type 0
-MayPut (Source arch source) imports key = key ≡ (arch, source)
-MayPut subject (Some imported) key = MayImport imported key
-MayPut subject None key = ⊥
+-- what is taken away may be the record at a key: one of an architecture that is taken away
+abbrev pub MayRemove : Option Removal → List ℕ × List ℕ → Type 0
+MayRemove (Some (OfArch fields)) key = key.0 ≡ fields.name
+MayRemove removed key = ⊥
 
--- a command may change the record at a key: the one that it enters or moves or that gets a build priority, or those
--- that it imports
+-- a command that makes no move may change the record at a key: that of the source package that it names, those that it
+-- imports, or those that it takes away
+abbrev pub MayPut : Subject → Option Import → Option Removal → List ℕ × List ℕ → Type 0
+MayPut (Source arch source) imports removed key = key ≡ (arch, source)
+MayPut subject (Some imported) removed key = MayImport imported key
+MayPut subject None removed key = MayRemove removed key
+
+-- a command may take the record at a key away: one of the architectures of a merge's parts, one of an architecture that
+-- is taken away, or the one that is forgotten
+abbrev pub MayTakeAway : Option Import → Option Removal → List ℕ × List ℕ → Type 0
+MayTakeAway (Some (Lists merge)) removed key = MayImport (Lists merge) key
+MayTakeAway (Some (Lines report)) removed key = ⊥
+MayTakeAway None (Some (OfArch fields)) key = key.0 ≡ fields.name
+MayTakeAway None (Some (OfBuilder fields)) key = ⊥
+MayTakeAway None (Some (OfPackage fields)) key = key ≡ (fields.arch, fields.source)
+MayTakeAway None None key = ⊥
+
+-- a command may change the record at a key: the one that it enters or moves, that gets a build priority or goes, or
+-- those that it imports, or whose architecture it takes away
 abbrev pub MayChange : Machine → Command → List ℕ × List ℕ → Type 0
 MayChange machine command key =
-    MatchOption (move_of machine command) (MayPut (subject_of command) (arguments_of command).imports key) (λ move. MayMove machine command key)
+    MatchOption (move_of machine command) (MayPut (subject_of command) (arguments_of command).imports
+    (arguments_of command).removes key) (λ move. MayMove machine command key)

@@ -1,9 +1,12 @@
 //! The records that builders hold.
 ghost use Rattle.std.specs.Prelude.{◌≡◌, IfOk, bytes_eq, map as each};
+ghost use Rattle.std.specs.List.{list_any};
 ghost use Rattle.std.specs.Option.{option_map};
+ghost use Rattle.std.specs.FinMap as map;
 ghost use Rattle.std.specs.Map.Iter.{deref_pair};
 ghost use Rattle.wb_states.specs.Holds.{taken_as, held_of};
 ghost use Rattle.deb_text.specs.Options.{has_value};
+ghost use Rattle.wb_step.specs.Checks.{is_held_on};
 
 use crate::OfficePart;
 use deb_text::Text;
@@ -39,6 +42,21 @@ impl OfficePart {
         }
         held.sort_by_key(|row| row.1.take.unwrap_or(0))?;
         Ok(held)
+    }
+}
+
+impl OfficePart {
+    /// Whether the builder holds a record of the architecture. Takes no memory (this project's
+    /// own).
+    pub fn holds_on(&self, builder: &Text, arch: &Text) -> bool
+        ensures value { result ≡ list_any (is_held_on arch.now builder.now) (map.entries self.now.records) }
+    {
+        for (key, current) in self.records.iter() {
+            if key.0 == *arch && is_holder(current, builder) {
+                return true;
+            }
+        }
+        false
     }
 }
 

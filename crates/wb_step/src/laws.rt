@@ -1,5 +1,7 @@
 //! Laws of the definitions, each on a function that does nothing.
-ghost use Rattle.std.specs.Prelude.{◌≡◌, ℕ, ◌≤◌, true, false, List, ◌++◌, ◌∷◌, Option, Some, None, Ok, Err, IfErr, is_ok};
+ghost use Rattle.std.specs.Prelude.{◌≡◌, ℕ, ◌≤◌, true, false, List, ◌++◌, ◌∷◌, Option, Some, None};
+ghost use Rattle.std.specs.Prelude.{Ok, Err, IfErr};
+ghost use Rattle.std.specs.Prelude.{IsTrue, is_ok, is_some};
 ghost use Rattle.std.specs.FinMap as map;
 ghost use Rattle.wb_states.specs.Machine.{IsConsistent, Machine, empty_office};
 ghost use Rattle.wb_states.specs.declared.command.Command.{Command};
@@ -14,9 +16,11 @@ ghost use Rattle.wb_states.specs.Queue.{queue_of};
 ghost use Rattle.wb_states.specs.Refusals.{IsOfMachine, is_of_store};
 ghost use Rattle.wb_step.specs.Arguments.{arguments_of};
 ghost use Rattle.wb_step.specs.Checks.{first_refusal, take_named};
-ghost use Rattle.wb_step.specs.HandOuts.{HandOut, IsBeingBuilt, HasTakesByState, Ends, Rise, hand_out, hand_outs};
-ghost use Rattle.wb_step.specs.Locality.{HasAllNamed, IsPartOf, LooksAlike, changed, entry_put};
-ghost use Rattle.wb_step.specs.Targets.{MayChange, again_of};
+ghost use Rattle.wb_step.specs.HandOuts.{HandOut, IsBeingBuilt, HasTakesByState, Ends, Rise};
+ghost use Rattle.wb_step.specs.HandOuts.{hand_out, hand_outs};
+ghost use Rattle.wb_step.specs.Locality.{HasAllNamed, IsPartOf, IsSingle, LooksAlike, changed};
+ghost use Rattle.wb_step.specs.Locality.{entry_put};
+ghost use Rattle.wb_step.specs.Targets.{MayChange, MayTakeAway, again_of};
 ghost use Rattle.wb_step.specs.MergedParts.{IsJoined, is_part_for, part_for_merge};
 ghost use Rattle.wb_step.specs.Named.{part_named};
 ghost use Rattle.wb_step.specs.Parts.{part_listing, records_with};
@@ -114,13 +118,23 @@ pub fn ended_takes_stay_ended()
         → (step (replay machine commands) (Built take_number)).0 ≡ Err NotHeld }
 {}
 
-/// A command changes no record but the one that it enters, moves or gives a build priority; a merge
-/// changes only records of its parts' architectures, and a report only those of its architecture
-/// that its lines name.
+/// A command changes no record but the one that it enters, moves, gives a build priority or
+/// forgets; a merge changes only records of its parts' architectures, a report only those of its
+/// architecture that its lines name, and an architecture that is taken away takes only its own
+/// records with it.
 pub fn commands_leave_other_records()
     ensures others { (machine : Machine) (command : Command) (key : List ℕ × List ℕ)
         → (MayChange machine command key → ⊥)
         → map.get (step machine command).1.records key ≡ map.get machine.records key }
+{}
+
+/// A source package that has a record keeps one, unless the command merges its architecture, takes
+/// its architecture away or forgets it: neither a builder nor a report loses a package.
+pub fn records_stay()
+    ensures stays { (machine : Machine) (command : Command) (key : List ℕ × List ℕ)
+        → (MayTakeAway (arguments_of command).imports (arguments_of command).removes key → ⊥)
+        → IsTrue (is_some (map.get machine.records key))
+        → IsTrue (is_some (map.get (step machine command).1.records key)) }
 {}
 
 /// A builder that asks for the head of a queue is handed the first of the queue, and the rest stays
@@ -146,17 +160,17 @@ pub fn parts_are_merged_apart()
         ≡ map.get (records_with machine.records part.arch (part_listing machine sources part)) key }
 {}
 
-/// A command that imports nothing, as a merge and a report do, looks at the counts, the
-/// architectures, the architectures of its builder, and the records that it names: by key, by take
-/// number, at the head of a queue, or as what its builder builds. Two offices in which these are
-/// the same give it the same answer, and it puts the same record into both. It changes nothing
-/// else.
+/// A command that imports nothing, as a merge and a report do, and takes no architecture away looks
+/// at the counts, the architectures, the architectures of its builder, and the records that it
+/// names: by key, by take number, at the head of a queue, or as what its builder builds or holds.
+/// Two offices in which these are the same give it the same answer, and it puts the same record
+/// into both. It changes nothing else.
 pub fn commands_look_only_at_what_they_name()
     ensures answer { (command : Command) (one other : Machine) → LooksAlike command one other
         → (step one command).0 ≡ (step other command).0 }
     ensures entry { (command : Command) (one other : Machine) → LooksAlike command one other
         → entry_put one command ≡ entry_put other command }
-    ensures change { (command : Command) (machine : Machine) → (arguments_of command).imports ≡ None
+    ensures change { (command : Command) (machine : Machine) → IsSingle command
         → first_refusal machine command ≡ None → again_of machine command ≡ None
         → (step machine command).1 ≡ changed machine command }
 {}
@@ -170,7 +184,7 @@ pub fn parts_of_an_office_answer_alike()
     ensures part { (machine : Machine) (command : Command) → IsConsistent machine
         → IsPartOf (part_named machine command) machine }
     ensures named { (machine : Machine) (command : Command) → IsConsistent machine
-        → (arguments_of command).imports ≡ None → HasAllNamed command (part_named machine command) machine }
+        → IsSingle command → HasAllNamed command (part_named machine command) machine }
 {}
 
 /// A merge looks at the counts, the architectures, and the records of the architectures that its

@@ -18,6 +18,7 @@ mod office_part;
 mod operator;
 mod priority;
 mod queue;
+mod removal;
 mod step;
 mod text_check;
 mod texts;

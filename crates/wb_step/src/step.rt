@@ -1,22 +1,22 @@
 //! One command, carried out in memory.
-ghost use Rattle.std.specs.Prelude.{◌≡◌, None, OnOk};
-ghost use Rattle.wb_step.specs.Arguments.{arguments_of};
+ghost use Rattle.std.specs.Prelude.{OnOk};
 ghost use Rattle.wb_step.specs.Carries.{Carries};
+ghost use Rattle.wb_step.specs.Locality.{IsSingle};
 ghost use Rattle.wb_step.specs.Utf8.{HasUtf8Texts};
 
-use crate::{OfficePart, builder, holder, named, operator, priority};
+use crate::{OfficePart, builder, holder, named, operator, priority, removal};
 use std::alloc::Global;
 use wb_states::{Command, Move, Refusal, Reply};
 
 // A command in memory has no transaction: it makes its copies first and writes last, and the writes
 // that can fail come before those that cannot. "Whole or not at all" rests on that; that of the
 // office rests on one transaction for each command.
-// No merge and no report: these may change many records, so an office carries them out over its
-// tables, one paragraph or one record at a time. `step` says what they do, and each law speaks of
-// them.
+// No merge, no report, and no architecture that is taken away: these may change many records, so an
+// office carries them out over its tables, one paragraph or one record at a time. `step` says what
+// they do, and each law speaks of them.
 /// Carries out one command on a part of an office in memory, whole or not at all, and answers it.
-/// The command is neither a merge nor a report. The part has what the command names, and need not
-/// be consistent.
+/// The command is neither a merge nor a report, and takes no architecture away. The part has what
+/// the command names, and need not be consistent.
 ///
 /// The refusal is the first that is true of the command in the order of [`Refusal`]; `Memory` comes
 /// if there is no memory for it, at any point after its names, its version, its number and the
@@ -27,7 +27,7 @@ pub fn carry_out(
     office: &mut OfficePart,
     command: &Command,
 ) -> Result<Reply, Refusal>
-    requires single { (arguments_of command.now).imports ≡ None }
+    requires single { IsSingle command.now }
     ensures carries { Carries office.old office.new command.now result }
     ensures utf8 { OnOk result (HasUtf8Texts command.now) }
 {
@@ -36,6 +36,7 @@ pub fn carry_out(
     match command {
         Command::AddArch(command) => operator::add_arch(office, command),
         Command::AddBuilder(command) => operator::add_builder(office, command),
+        Command::RemoveBuilder(command) => removal::remove_builder(office, command),
         Command::Enter(command) => operator::enter(alloc, office, command),
         Command::Next(command) => builder::next(alloc, office, command),
         Command::Take(command) => builder::take(alloc, office, command),
@@ -56,6 +57,7 @@ pub fn carry_out(
         Command::NotForUs(command) => named::not_for_us(alloc, office, command),
         Command::Rebuild(command) => named::rebuild(alloc, office, command),
         Command::BuildPriority(command) => priority::build_priority(alloc, office, command),
-        Command::Merge(_) | Command::Report(_) => unreachable!(),
+        Command::Forget(command) => removal::forget(alloc, office, command),
+        Command::RemoveArch(_) | Command::Merge(_) | Command::Report(_) => unreachable!(),
     }
 }

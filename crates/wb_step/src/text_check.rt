@@ -1,5 +1,6 @@
 //! The check of a command's texts, for which nothing of the office is looked up.
-ghost use Rattle.std.specs.Prelude.{◌≡◌, ◌≢◌, false, nat_lt, length, [], ◌∷◌, Option, None, Some, IfErr, IfOk, OnOk};
+ghost use Rattle.std.specs.Prelude.{◌≡◌, ◌≢◌, false, nat_lt, length, [], ◌∷◌, Option, None, Some};
+ghost use Rattle.std.specs.Prelude.{IfErr, IfOk, OnOk};
 ghost use Rattle.std.specs.Option.{option_or};
 ghost use Rattle.std.specs.Str.{IsUtf8};
 ghost use Rattle.deb_text.specs.Options.{first_some};
@@ -8,7 +9,8 @@ ghost use Rattle.wb_states.specs.declared.refusal.Refusal.{Refusal as AnyRefusal
 ghost use Rattle.wb_states.specs.declared.refusal.Refusal.TheVariants.{BadName, Memory};
 ghost use Rattle.wb_states.specs.Limits.{relations_limit};
 ghost use Rattle.wb_states.specs.Refusals.{IsOfMachine};
-ghost use Rattle.wb_step.specs.Checks.{is_bad_number, is_bad_priority, key_refusal, relations_fault, relations_refusal, version_refusal, when};
+ghost use Rattle.wb_step.specs.Checks.{is_bad_number, is_bad_priority, key_refusal};
+ghost use Rattle.wb_step.specs.Checks.{relations_fault, relations_refusal, version_refusal, when};
 ghost use Rattle.wb_step.specs.Step.{lines_said};
 ghost use Rattle.wb_step.specs.TextChecks.{ChecksTexts, Tells, report_lines};
 ghost use Rattle.wb_step.specs.Utf8.{HasUtf8Texts};
@@ -64,6 +66,14 @@ fn check_other(alloc: Global, command: &Command) -> Result<(), Refusal>
             let is_bad = has_bad_builder(&adds.name, &adds.arch);
             unless(Ok(()), is_bad, Refusal::BadName)
         }
+        Command::RemoveArch(removes) => {
+            let is_bad = !is_arch(removes.name.as_str());
+            unless(Ok(()), is_bad, Refusal::BadName)
+        }
+        Command::RemoveBuilder(removes) => {
+            let is_bad = has_bad_builder(&removes.name, &removes.arch);
+            unless(Ok(()), is_bad, Refusal::BadName)
+        }
         Command::Enter(enter) => {
             let is_bad = has_bad_entry(&enter.arch, &enter.source, &enter.priority, &enter.section);
             check_version(alloc, is_bad, &enter.version)
@@ -95,6 +105,9 @@ fn check_other(alloc: Global, command: &Command) -> Result<(), Refusal>
         Command::BuildPriority(priority) => {
             let key = check_key(alloc, &priority.arch, &priority.source, &priority.version);
             unless(key, is_bad_priority(priority.value), Refusal::BadNumber)
+        }
+        Command::Forget(forget) => {
+            check_key(alloc, &forget.arch, &forget.source, &forget.version)
         }
         Command::Merge(merge) => {
             let parts = merge.parts.as_slice();

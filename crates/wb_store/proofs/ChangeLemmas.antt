@@ -38,7 +38,9 @@ use Rattle.wb_sql.proofs.UpdateLemmas.{updates_writes}
 use Rattle.wb_sql.proofs.QuietLemmas.{office_quiet, arch_quiet, builder_quiet, record_quiet}
 use Rattle.wb_sql.specs.Tables.{office, arch, builder, source_record, source_state, scratch_source, scratch_binary}
 use Rattle.wb_sql.specs.Among.{HasTable, HasOffice, HasStates, InsertsAmong, UpsertsRecords, UpdatesAmong, DeletesAmong, table_in, tree_named, rows_in}
-use Rattle.wb_sql.specs.OfficeStatements.{office_sets, arch_row as arch_terms, builder_row as builder_terms, record_row as record_terms, record_sets, record_key, has_record_key}
+use Rattle.wb_sql.specs.OfficeStatements.{office_sets, arch_row as arch_terms, builder_row as builder_terms}
+use Rattle.wb_sql.specs.OfficeStatements.{record_row as record_terms, record_sets, record_key, has_arch_name, has_pair}
+use Rattle.wb_sql.specs.OfficeStatements.{has_record_key}
 use Rattle.wb_sql.proofs.RecordLemmas.{arch_typed, builder_typed}
 use Rattle.wb_rows.specs.Cells.{record_cells, arch_cells, builder_cells, number}
 use Rattle.wb_store.specs.Merging.{Scratch, no_merge, stored_source, stored_binary}
@@ -49,7 +51,9 @@ use Rattle.wb_store.specs.Writes as write
 use Rattle.wb_store.specs.Writes.{IsTextOfWrite, OfficeWrite, table_written, written_by}
 use Rattle.wb_store.proofs.OthersLemmas.{others_kept, office_named, arch_named, builder_named, record_named}
 use Rattle.wb_store.proofs.MapLemmas.{entries-insert, entries-added, items-added}
-use Rattle.wb_store.proofs.ChangeRowLemmas.{begins_with, passes, cells_without, cells_apart, records_without, record_decides, office_typed, entry_typed, typed_at}
+use Rattle.wb_store.proofs.ChangeRowLemmas.{archs_without, begins_with, is_of_arch, pairs_without, passes}
+use Rattle.wb_store.proofs.ChangeRowLemmas.{cells_without, cells_without_arch, cells_apart, records_without}
+use Rattle.wb_store.proofs.ChangeRowLemmas.{record_decides, office_typed, entry_typed, typed_at}
 use Rattle.wb_store.proofs.RenewalLemmas.{only_row, row_renewed}
 use Rattle.wb_sql.proofs.ApartLemmas.{other_rows, own_rows}
 
@@ -228,6 +232,77 @@ module _ (sql : List ℕ) (machine : Machine) {scratch : Scratch} (old new : Sta
         others = others_kept old new (table_in schema builder) _ stands.has.builder_is (builder_named schema) made;
       }
 
+  -- an architecture less
+  pub arch_removed : (name : List ℕ) → DeletesAmong arch sql has_arch_name 1 → Deletes sql (Text name ∷ []) old new
+      → BecomesWith (record machine { archs = finite.remove machine.archs name }) scratch old new
+  arch_removed name text does =
+      let tree = tree_named schema arch.name in
+      let put = does (table_in schema arch) has_arch_name 1
+      (text schema tree stands.has.arch_is (arch_quiet schema stands.has)) stands.archs.stored in
+      let made = put.0 in
+      let columns = map arch_cells (finite.entries (finite.remove machine.archs name)) in
+      let was = rows_in old.now arch in
+      let same : IsPermutation columns (cells_of (without (is_of_arch name) was)) = subst (IsPermutation columns)
+      (sym (cells_without_arch name was)) (archs_without machine name (cells_of was) stands.archs.same) in
+      let holds : HoldsRows columns (new.now.trees tree) = record
+      { stored = put.1; same = subst (λ all. IsPermutation columns (cells_of all)) (sym made.rows_are) same } in
+      record {
+        stands = record {
+          has = still_has stands (table_in schema arch) _ stands.has.arch_is made;
+          counts = still_counts stands (table_in schema arch) _ stands.has.arch_is made (λ e. omega (arith, e));
+          archs = moved old new arch _ made.schema holds;
+          builders = still_builders stands (table_in schema arch) _ stands.has.arch_is made (λ e. omega (arith, e));
+          records = still_records stands (table_in schema arch) _ stands.has.arch_is made (λ e. omega (arith, e));
+          sources = still_sources stands (table_in schema arch) _ stands.has.arch_is made (λ e. omega (arith, e));
+          binaries = still_binaries stands (table_in schema arch) _ stands.has.arch_is made (λ e. omega (arith, e));
+          order = stands.order;
+          emptied = still_emptied stands (table_in schema arch) _ stands.has.arch_is made (λ e. omega (arith, e));
+        };
+        schema_is = made.schema;
+        shown = made.shown;
+        limit = limit;
+        marks = made.marks;
+        others = others_kept old new (table_in schema arch) _ stands.has.arch_is (arch_named schema) made;
+      }
+
+  -- a pair of a builder and an architecture less
+  pub builder_removed : (name of : List ℕ) → DeletesAmong builder sql has_pair 2
+      → Deletes sql (Text name ∷ Text of ∷ []) old new
+      → BecomesWith (record machine { builders = set.remove machine.builders (name, of) }) scratch old new
+  builder_removed name of text does =
+      let after : Machine = record machine { builders = set.remove machine.builders (name, of) } in
+      let tree = tree_named schema builder.name in
+      let put = does (table_in schema builder) has_pair 2
+      (text schema tree stands.has.builder_is (builder_quiet schema stands.has)) stands.builders.stored in
+      let made = put.0 in
+      let was = rows_in old.now builder in
+      let same : IsPermutation (builder_rows after) (cells_of (without (passes name of) was)) = subst
+      (IsPermutation (builder_rows after)) (sym (cells_without name of was))
+      (pairs_without machine name of (cells_of was) stands.builders.same) in
+      let holds : HoldsRows (builder_rows after) (new.now.trees tree) = record {
+        stored = put.1;
+        same = subst (λ all. IsPermutation (builder_rows after) (cells_of all)) (sym made.rows_are)
+            same;
+      } in
+      record {
+        stands = record {
+          has = still_has stands (table_in schema builder) _ stands.has.builder_is made;
+          counts = still_counts stands (table_in schema builder) _ stands.has.builder_is made (λ e. omega (arith, e));
+          archs = still_archs stands (table_in schema builder) _ stands.has.builder_is made (λ e. omega (arith, e));
+          builders = moved old new builder _ made.schema holds;
+          records = still_records stands (table_in schema builder) _ stands.has.builder_is made (λ e. omega (arith, e));
+          sources = still_sources stands (table_in schema builder) _ stands.has.builder_is made (λ e. omega (arith, e));
+          binaries = still_binaries stands (table_in schema builder) _ stands.has.builder_is made (λ e. omega (arith, e));
+          order = stands.order;
+          emptied = still_emptied stands (table_in schema builder) _ stands.has.builder_is made (λ e. omega (arith, e));
+        };
+        schema_is = made.schema;
+        shown = made.shown;
+        limit = limit;
+        marks = made.marks;
+        others = others_kept old new (table_in schema builder) _ stands.has.builder_is (builder_named schema) made;
+      }
+
   -- other rows of records
   records_made : (after : finite.FinMap pair_cmp Record) (rows : List Row) → SetsTable (table_in schema source_record) rows old new
       → HoldsRows (map record_cells (finite.entries after)) (new.now.trees (tree_named schema source_record.name)) → BecomesWith (record machine { records = after }) scratch old new
@@ -336,6 +411,30 @@ module _ {S A : Type 0} {g : Ghosts S} {sql : List ℕ} {params : Row} {old new 
   builder_change name of text is =
       statement_changes (write.AddsBuilder (name, of)) (Inserts sql params) text is (λ schema has. inserts_writes schema sql (table_in schema builder) builder_terms (text schema (tree_named schema builder.name) has.builder_is (builder_quiet schema has)))
       (λ machine scratch stands unknown limit does. builder_put sql machine (state g old) (state g new) stands limit name of text unknown (subst (λ p. Inserts sql p (state g old) (state g new)) is does))
+
+  pub arch_removal_change : (name : List ℕ) → DeletesAmong arch sql has_arch_name 1 → params ≡ Text name ∷ []
+      → RunsStatement g sql params old new r
+      → (HasCleanDisk (state g new) → OnOk r (Deletes sql params (state g old) (state g new)))
+      → answer ≡ answer_on r Arch → Changes g (write.RemovesArch name) (λ _. ⊤)
+      (λ machine. record machine { archs = finite.remove machine.archs name }) old new answer
+  arch_removal_change name text is =
+      statement_changes (write.RemovesArch name) (Deletes sql params) text is
+      (λ schema has. deletes_writes schema sql (table_in schema arch) has_arch_name
+      (text schema (tree_named schema arch.name) has.arch_is (arch_quiet schema has)))
+      (λ machine scratch stands allows limit does. arch_removed sql machine (state g old) (state g new) stands limit
+      name text (subst (λ p. Deletes sql p (state g old) (state g new)) is does))
+
+  pub builder_removal_change : (name of : List ℕ) → DeletesAmong builder sql has_pair 2
+      → params ≡ Text name ∷ Text of ∷ [] → RunsStatement g sql params old new r
+      → (HasCleanDisk (state g new) → OnOk r (Deletes sql params (state g old) (state g new)))
+      → answer ≡ answer_on r Builder → Changes g (write.RemovesBuilder (name, of)) (λ _. ⊤)
+      (λ machine. record machine { builders = set.remove machine.builders (name, of) }) old new answer
+  builder_removal_change name of text is =
+      statement_changes (write.RemovesBuilder (name, of)) (Deletes sql params) text is
+      (λ schema has. deletes_writes schema sql (table_in schema builder) has_pair
+      (text schema (tree_named schema builder.name) has.builder_is (builder_quiet schema has)))
+      (λ machine scratch stands allows limit does. builder_removed sql machine (state g old) (state g new) stands limit
+      name of text (subst (λ p. Deletes sql p (state g old) (state g new)) is does))
 
   pub removal_change : (of source : List ℕ) → DeletesAmong source_record sql has_record_key 2 → params ≡ Text of ∷ Text source ∷ [] → RunsStatement g sql params old new r
       → (HasCleanDisk (state g new) → OnOk r (Deletes sql params (state g old) (state g new)))

@@ -4,6 +4,7 @@ use Rattle.std.specs.List.{AllByRecursion, list_any, list_all}
 use Rattle.std.specs.Ordering.{is_eq, eq_by_cmp, ordering_then}
 use Rattle.std.specs.Cmp.{eq_by_cmp_equiv}
 use Rattle.std.specs.FinMap as finite
+use Rattle.std.specs.FinSet as set
 use Rattle.std.proofs.lemmas.Bool.{and_parts, or_parts}
 use Rattle.sqlite.specs.Collation.TheVariants.{Binary}
 use Rattle.sqlite.specs.Edit.{have_rowids, id_in, next_rowid}
@@ -27,8 +28,9 @@ use Rattle.sqlite_rules.proofs.ListLemmas.{all_has}
 use Rattle.sqlite_rules.proofs.TableLemmas.{int_is}
 use Rattle.sqlite_rules.proofs.PlaceLemmas.{next_is_free}
 use Rattle.deb_text.specs.Text.{text_cmp, pair_cmp}
-use Rattle.deb_text.proofs.KeyLemmas.{text_cmp-same, pair_cmp_total, pair_cmp-same, eq_by_cmp-same}
-use Rattle.wb_states.specs.Machine.{Machine}
+use Rattle.deb_text.proofs.KeyLemmas.{text_cmp_total, text_cmp-same, pair_cmp_total, pair_cmp-same, eq_by_cmp-same}
+use Rattle.wb_states.specs.declared.arch.OsCpu.{OsCpu}
+use Rattle.wb_states.specs.Machine.{Machine, Key, builder_pairs}
 use Rattle.wb_states.specs.Queue.{Entry}
 use Rattle.wb_sql.specs.Changes.{has_key, IsDecidedBy}
 use Rattle.wb_sql.specs.Rows.{cells, cells_of, IsStored, IsTyped, meets, apart, without}
@@ -36,12 +38,12 @@ use Rattle.wb_sql.proofs.WriteLemmas.{cast_int, cast_null}
 use Rattle.wb_sql.proofs.UpsertLemmas.{true_of, equal_int}
 use Rattle.wb_sql.specs.Tables.{office, source_record}
 use Rattle.wb_sql.specs.Among.{HasOffice, table_at, table_in, tree_named}
-use Rattle.wb_sql.specs.OfficeStatements.{record_key, record_sets, has_record_key}
+use Rattle.wb_sql.specs.OfficeStatements.{record_key, record_sets, has_arch_name, has_record_key}
 use Rattle.wb_sql.proofs.MeetingLemmas.{meets_record_among, has_key_among}
 use Rattle.wb_sql.proofs.RecordLemmas.{record_typed}
-use Rattle.wb_rows.specs.Cells.{record_cells, text_or_null, number_or_null}
-use Rattle.wb_store.specs.Stands.{office_row, record_rows}
-use Rattle.wb_store.proofs.MapLemmas.{entries-remove}
+use Rattle.wb_rows.specs.Cells.{arch_cells, builder_cells, record_cells, text_or_null, number_or_null}
+use Rattle.wb_store.specs.Stands.{arch_rows, builder_rows, office_row, record_rows}
+use Rattle.wb_store.proofs.MapLemmas.{entries-remove, items-left}
 
 -- ---- what SQL finds equal
 
@@ -83,17 +85,22 @@ second_cell (id ∷ row) = refl
 
 -- ---- which rows stay
 
--- the rows that are left, if those go that begin with these texts
+-- the rows that are left, if those go whose columns pass a test
+left_by : (test goes : Row → Bool) (rows : List Row) → AllByRecursion (λ row. test row ≡ goes (cells row)) rows
+    → cells_of (filter (λ row. not (test row)) rows) ≡ filter (λ columns. not (goes columns)) (cells_of rows)
+left_by test goes [] same = refl
+left_by test goes (row ∷ rows) same =
+    let left = filter (λ r. not (test r)) rows in
+    let kept = filter (λ columns. not (goes columns)) (cells_of rows) in
+    let more = left_by test goes rows same.1 in
+    ap (λ b. cells_of (cond (not b) (row ∷ left) left)) same.0
+    ∙ elim (goes (cells row)) as (λ b. cells_of (cond (not b) (row ∷ left) left) ≡ cond (not b) (cells row ∷ kept) kept)
+    [ true ↦ more | false ↦ ap (λ l. cells row ∷ l) more ]
+
+-- and if those go that begin with these texts
 left_rows : (test : Row → Bool) (first second : List ℕ) (rows : List Row) → AllByRecursion (λ row. test row ≡ begins_with first second (cells row)) rows
     → cells_of (filter (λ row. not (test row)) rows) ≡ filter (λ columns. not (begins_with first second columns)) (cells_of rows)
-left_rows test first second [] same = refl
-left_rows test first second (row ∷ rows) same =
-    let left = filter (λ r. not (test r)) rows in
-    let kept = filter (λ columns. not (begins_with first second columns)) (cells_of rows) in
-    let more = left_rows test first second rows same.1 in
-    ap (λ b. cells_of (cond (not b) (row ∷ left) left)) same.0
-    ∙ elim (begins_with first second (cells row)) as (λ b. cells_of (cond (not b) (row ∷ left) left) ≡ cond (not b) (cells row ∷ kept) kept)
-    [ true ↦ more | false ↦ ap (λ l. cells row ∷ l) more ]
+left_rows test first second = left_by test (begins_with first second)
 
 and_true : (a b : Bool) → (a && (b && true)) ≡ (a && b)
 and_true true true = refl
@@ -117,6 +124,70 @@ each_passes arch source (row ∷ rows) = (passes_is arch source row, each_passes
 pub cells_without : (arch source : List ℕ) (rows : List Row)
     → cells_of (without (passes arch source) rows) ≡ filter (λ columns. not (begins_with arch source columns)) (cells_of rows)
 cells_without arch source rows = left_rows (passes arch source) arch source rows (each_passes arch source rows)
+
+-- the architecture of this name
+abbrev pub is_of_arch : List ℕ → Row → Bool
+is_of_arch name row = list_all (holds ((Text name ∷ []) ∷ row ∷ [])) has_arch_name
+
+-- columns that begin with this text
+abbrev pub begins : List ℕ → Row → Bool
+begins first columns = equal Binary (column columns 0) (Text first)
+
+is_of_arch-is : (name : List ℕ) (row : Row) → is_of_arch name row ≡ begins name (cells row)
+is_of_arch-is name row = alone (equal Binary (column row 1) (Text name))
+    ∙ (λ i. equal Binary (first_cell row i) (Text name)) where
+      alone : (b : Bool) → (b && true) ≡ b
+      alone true = refl
+      alone false = refl
+
+each_of_arch : (name : List ℕ) (rows : List Row) → AllByRecursion (λ row. is_of_arch name row ≡ begins name (cells row))
+    rows
+each_of_arch name [] = tt
+each_of_arch name (row ∷ rows) = (is_of_arch-is name row, each_of_arch name rows)
+
+-- the columns that a DELETE by name leaves
+pub cells_without_arch : (name : List ℕ) (rows : List Row)
+    → cells_of (without (is_of_arch name) rows) ≡ filter (λ columns. not (begins name columns)) (cells_of rows)
+cells_without_arch name rows = left_by (is_of_arch name) (begins name) rows (each_of_arch name rows)
+
+-- the columns of an architecture begin with its name
+begins-arch : (name : List ℕ) (arch : List ℕ × OsCpu) → begins name (arch_cells arch) ≡ eq_by_cmp text_cmp name arch.0
+begins-arch name arch = equal_texts arch.0 name ∙ (eq_by_cmp_equiv text_cmp_total).symm arch.0 name
+
+-- the columns of a pair begin with it
+begins_with-pair : (name of : List ℕ) (pair : Key) → begins_with name of (builder_cells pair) ≡ eq_by_cmp pair_cmp
+    (name, of) pair
+begins_with-pair name of pair =
+    (λ i. equal_texts pair.0 name i && equal_texts pair.1 of i) ∙ both_tied (text_cmp pair.0 name) (text_cmp pair.1 of)
+    ∙ (eq_by_cmp_equiv pair_cmp_total).symm pair (name, of)
+
+-- the architectures without that of a name
+pub archs_without : (machine : Machine) (name : List ℕ) (columns : List Row) → IsPermutation (arch_rows machine) columns
+    → IsPermutation (map arch_cells (finite.entries (finite.remove machine.archs name)))
+    (filter (λ c. not (begins name c)) columns)
+archs_without machine name columns same =
+    let es = finite.entries machine.archs in
+    let left : filter (λ c. not (begins name c)) (map arch_cells es) ≡ map arch_cells
+    (finite.entries (finite.remove machine.archs name)) =
+    filter-map (λ c. not (begins name c)) arch_cells es
+    ∙ (λ i. map arch_cells (filter (λ (e : List ℕ × OsCpu). not (begins-arch name e i)) es))
+    ∙ ap (map arch_cells) (sym (entries-remove text_cmp_total text_cmp-same machine.archs name)) in
+    subst (λ l. IsPermutation l (filter (λ c. not (begins name c)) columns)) left
+    (IsPermutation-filter (λ c. not (begins name c)) (arch_rows machine) columns same)
+
+-- the pairs of builders and architectures without one
+pub pairs_without : (machine : Machine) (name of : List ℕ) (columns : List Row)
+    → IsPermutation (builder_rows machine) columns
+    → IsPermutation (builder_rows (record machine { builders = set.remove machine.builders (name, of) }))
+    (filter (λ c. not (begins_with name of c)) columns)
+pairs_without machine name of columns same =
+    let left : filter (λ c. not (begins_with name of c)) (builder_rows machine) ≡ builder_rows
+    (record machine { builders = set.remove machine.builders (name, of) }) =
+    filter-map (λ c. not (begins_with name of c)) builder_cells (builder_pairs machine)
+    ∙ (λ i. map builder_cells (filter (λ (pair : Key). not (begins_with-pair name of pair i)) (builder_pairs machine)))
+    ∙ ap (map builder_cells) (sym (items-left pair_cmp_total pair_cmp-same machine.builders (name, of))) in
+    subst (λ l. IsPermutation l (filter (λ c. not (begins_with name of c)) columns)) left
+    (IsPermutation-filter (λ c. not (begins_with name of c)) (builder_rows machine) columns same)
 
 -- the rowid is another
 other_rowid : (id : ℤ) (row : Row) → is_int (rowid row) ≡ true → is_eq (value_cmp (rowid row) (Int id)) ≡ false → equal Binary (rowid row) (Int id) ≡ false

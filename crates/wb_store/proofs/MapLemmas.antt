@@ -10,7 +10,7 @@ use Rattle.std.specs.FinMap as finite
 use Rattle.std.specs.FinSet as set
 use Rattle.std.specs.FinMap.{IsAntisymmetric}
 use Rattle.std.specs.FinMap.Entries.{find, put, by_order, where_key, below_all, is_sorted, is_sorted-where_key, find-where_key}
-use Rattle.sqlite_trees.proofs.ListLemmas.{IsPermutation-same}
+use Rattle.sqlite_trees.proofs.ListLemmas.{IsPermutation-same, filter-map}
 use Rattle.deb_text.proofs.KeyLemmas.{eq_by_cmp-same}
 use Rattle.wb_states.proofs.PairLemmas.{as_map, get-as_map, marked, marked-or}
 
@@ -26,6 +26,10 @@ less_is Greater h = absurd h
 turned : {A : Type 0} (b : Bool) (x y : A) → cond b y x ≡ cond (not b) x y
 turned true x y = refl
 turned false x y = refl
+
+marked-left : (a b : Bool) → marked (not a && b) ≡ cond a None (marked b)
+marked-left true b = refl
+marked-left false b = refl
 
 -- an entry with another key
 abbrev pub is_other : {K X : Type 0} → (K → K → Ordering) → K → K × X → Bool
@@ -103,6 +107,19 @@ module _ {K : Type 0} {R : K → K → Ordering} where
           subst (λ m. IsPermutation (k ∷ finite.keys (as_map s)) (finite.keys m)) (sym as_map-insert)
           (IsPermutation-map (λ (e : K × Unit {0}). e.0) ((k, tt) ∷ finite.entries (as_map s)) (finite.entries (finite.insert (as_map s) k tt))
           (entries-added o same (as_map s) k tt (get-as_map o s k ∙ ap marked none)))
+
+      as_map-remove : as_map (set.remove s k) ≡ finite.remove (as_map s) k
+      as_map-remove = finite.same_map o same _ _ (λ q.
+          get-as_map o (set.remove s k) q ∙ ap marked (set.contains-remove o s k q)
+          ∙ marked-left (eq_by_cmp R q k) (set.contains s q)
+          ∙ sym (finite.get-remove o (as_map s) k q ∙ ap (cond (eq_by_cmp R q k) None) (get-as_map o s q)))
+
+      -- a removal leaves the other items
+      pub items-left : finite.keys (as_map (set.remove s k)) ≡ filter (λ x. not (eq_by_cmp R k x))
+          (finite.keys (as_map s))
+      items-left =
+          ap finite.keys as_map-remove ∙ ap (map (λ (e : K × Unit {0}). e.0)) (entries-remove o same (as_map s) k)
+          ∙ sym (filter-map (λ x. not (eq_by_cmp R k x)) (λ (e : K × Unit {0}). e.0) (finite.entries (as_map s)))
 
 -- ---- the entries of a map, inserted one after another
 

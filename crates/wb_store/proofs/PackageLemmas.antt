@@ -1,5 +1,7 @@
 -- What each query on a scratch table answers of the rows of a merge.
-use Rattle.std.proofs.Common.{◌≡◌, ℕ, ◌<◌, nat_cmp, bytes_eq, Bool, true, false, List, [], ◌∷◌, map, filter, inl, inr, Result, Ok, Err, IfOk, IfErr, Vec, refl, sym, ap, subst, ◌∙◌, arith, Less, IsPermutation}
+use Rattle.std.proofs.Common.{◌≡◌, ℕ, ◌<◌, nat_cmp, bytes_eq, Bool, true, false, List, [], ◌∷◌, Option, None, Some, map}
+use Rattle.std.proofs.Common.{filter, inl, inr, Result, Ok, Err, IfOk, IfErr, Vec, refl, sym, ap, subst, ◌∙◌, arith}
+use Rattle.std.proofs.Common.{Less, IsPermutation}
 use Rattle.std.specs.List.{list_all}
 use Rattle.std.proofs.lemmas.List.Sorted.{IsPermutation-refl}
 use Rattle.sqlite_trees.specs.declared.store.Store.{Ghosts}
@@ -23,7 +25,8 @@ use Rattle.wb_states.specs.declared.scratch.SourceRow.{SourceRow}
 use Rattle.wb_states.specs.declared.store_fault.StoreFault.{StoreFault}
 use Rattle.wb_states.specs.Machine.{Machine}
 use Rattle.wb_rows.specs.Cells.{flag, number}
-use Rattle.wb_rows.specs.Scratch.{IsReadableBinary, IsReadableSource, binary_cells, source_cells}
+use Rattle.wb_rows.specs.Scratch.{IsReadableBinary, IsReadableSource, binary_cells, own_number, source_cells}
+use Rattle.wb_rows.specs.Scratch.{version_or_empty}
 use Rattle.wb_rows.proofs.CellsLemmas.{number-same, text-same}
 use Rattle.wb_store.specs.Faults.{IsUnfit}
 use Rattle.wb_store.specs.Lookups.{ReadsTable}
@@ -88,16 +91,40 @@ source_cells-same a b e =
       depends_arch = text-same a.depends_arch b.depends_arch (ap (λ row. column row 8) e) i;
     }
 
+-- the text of a version and the number for it tell both the version, if there is one, and the flag
+offer-same : (one other : Option (List ℕ)) (own same : Bool) → version_or_empty one ≡ version_or_empty other
+    → own_number own one ≡ own_number same other
+    → (one ≡ other) × (own ≡ same)
+offer-same None None true true text number = (refl, refl)
+offer-same None None true false text number = absurd (omega (arith, number))
+offer-same None None false true text number = absurd (omega (arith, number))
+offer-same None None false false text number = (refl, refl)
+offer-same None (Some version) true true text number = absurd (omega (arith, number))
+offer-same None (Some version) true false text number = absurd (omega (arith, number))
+offer-same None (Some version) false true text number = absurd (omega (arith, number))
+offer-same None (Some version) false false text number = absurd (omega (arith, number))
+offer-same (Some version) None true true text number = absurd (omega (arith, number))
+offer-same (Some version) None true false text number = absurd (omega (arith, number))
+offer-same (Some version) None false true text number = absurd (omega (arith, number))
+offer-same (Some version) None false false text number = absurd (omega (arith, number))
+offer-same (Some version) (Some other) true true text number = (ap (λ (v : List ℕ). Some v) text, refl)
+offer-same (Some version) (Some other) true false text number = absurd (omega (arith, number))
+offer-same (Some version) (Some other) false true text number = absurd (omega (arith, number))
+offer-same (Some version) (Some other) false false text number = (ap (λ (v : List ℕ). Some v) text, refl)
+
 pub binary_cells-same : (a b : BinaryRow) → binary_cells a ≡ binary_cells b → a ≡ b
 binary_cells-same a b e =
+    let both = offer-same a.version b.version a.own b.own
+    (text-same (version_or_empty a.version) (version_or_empty b.version) (ap (λ row. column row 2) e))
+    (number-same (own_number a.own a.version) (own_number b.own b.version) (ap (λ row. column row 6) e)) in
     λ i. record {
       seq = number-same a.seq b.seq (ap (λ row. column row 0) e) i;
       name = text-same a.name b.name (ap (λ row. column row 1) e) i;
-      version = text-same a.version b.version (ap (λ row. column row 2) e) i;
+      version = both.0 i;
       source = text-same a.source b.source (ap (λ row. column row 3) e) i;
       source_version = text-same a.source_version b.source_version (ap (λ row. column row 4) e) i;
       number = number-same a.number b.number (ap (λ row. column row 5) e) i;
-      own = flag-same a.own b.own (ap (λ row. column row 6) e) i;
+      own = both.1 i;
     }
 
 -- ---- each query

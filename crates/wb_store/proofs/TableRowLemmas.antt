@@ -25,8 +25,10 @@ use Rattle.wb_rows.specs.declared.cell.Cell.{Cell}
 use Rattle.wb_rows.specs.declared.cell.Cell.TheVariants as cell
 use Rattle.wb_rows.specs.Cells.{arch_cells, builder_cells, flag, number, number_or_null, record_cells, text_or_null}
 use Rattle.wb_rows.specs.Reading.{IsReadable}
-use Rattle.wb_rows.specs.Scratch.{IsReadableBinary, IsReadableSource, binary_cells, source_cells}
+use Rattle.wb_rows.specs.Scratch.{IsReadableBinary, IsReadableSource, binary_cells, own_number, source_cells}
+use Rattle.wb_rows.specs.Scratch.{version_or_empty}
 use Rattle.wb_rows.specs.Shown.{AreReadableCells, IsReadableCell, value_of, values_of}
+use Rattle.wb_rows.proofs.ScratchLemmas.{offer-utf8}
 use Rattle.wb_rows.proofs.TextLemmas.{version-utf8}
 use Rattle.wb_store.specs.Lookups.{AreRowsOf, IsReadableArch, IsReadablePair}
 use Rattle.wb_store.specs.Merging.{Scratch, stored_binary, stored_source}
@@ -159,15 +161,24 @@ source_readable row fit =
 
 abbrev binary_shown : BinaryRow → List Cell
 binary_shown row =
-    number_cell row.seq ∷ cell.Text row.name ∷ cell.Text row.version ∷ cell.Text row.source ∷ cell.Text row.source_version ∷ number_cell row.number ∷ flag_cell row.own ∷ []
+    number_cell row.seq ∷ cell.Text row.name ∷ cell.Text (version_or_empty row.version) ∷ cell.Text row.source ∷
+    cell.Text row.source_version ∷ number_cell row.number
+    ∷ number_cell (own_number row.own row.version) ∷ []
 
 binary_cells-shown : (row : BinaryRow) → binary_cells row ≡ values_of (binary_shown row)
-binary_cells-shown row =
-    λ i. number row.seq ∷ value_of (cell.Text row.name) ∷ value_of (cell.Text row.version) ∷ value_of (cell.Text row.source) ∷ value_of (cell.Text row.source_version) ∷ number row.number
-    ∷ flag-cell row.own i ∷ []
+binary_cells-shown row = refl
 
 binary_readable : (row : BinaryRow) → IsReadableBinary row → AreReadableCells (binary_shown row)
-binary_readable row fit = (tt, (fit.name, (version-utf8 row.version fit.version, (fit.source, (version-utf8 row.source_version fit.source_version, (tt, (flag_cell-readable row.own, tt)))))))
+binary_readable row fit = (
+  tt,
+  (
+    fit.name,
+    (
+      offer-utf8 row.version fit.version,
+      (fit.source, (version-utf8 row.source_version fit.source_version, (tt, (tt, tt)))),
+    ),
+  ),
+)
 
 -- rows of some that fit are those of cells that are shown
 module _ {X : Type 0} (columns : X → Row) (Fits : X → Type 0) (shown : X → List Cell) (is : (x : X) → columns x ≡ values_of (shown x)) (fit : (x : X) → Fits x → AreReadableCells (shown x)) where

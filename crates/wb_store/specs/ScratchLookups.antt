@@ -4,6 +4,7 @@ use Rattle.std.specs.List.{AllByRecursion, dedup}
 use Rattle.sqlite_trees.specs.declared.store.Store.{Ghosts}
 use Rattle.sqlite.specs.Held.{Held, state}
 use Rattle.sqlite.specs.State.{State, HasCleanDisk, IsUnchanged, Survives}
+use Rattle.deb_relations.specs.Satisfaction.{Offer}
 use Rattle.wb_sql.specs.Among.{HasOffice}
 use Rattle.wb_states.specs.declared.store_fault.StoreFault.{StoreFault}
 use Rattle.wb_states.specs.declared.store_fault.StoreFault.TheVariants.{Memory}
@@ -47,8 +48,8 @@ AreNames = AreRowsOf name_cells IsUtf8
 abbrev pub DistinctNames : List Row → List (List ℕ) → Type 0
 DistinctNames rows found = (names : List (List ℕ)) × (rows ≡ map name_cells names) × (found ≡ dedup bytes_eq names)
 
--- these are the versions of the binary packages in the rows
-abbrev pub VersionsIn : List Row → List (List ℕ) → Type 0
+-- these are the versions in the rows of binary packages and of names that they provide, or none where there is none
+abbrev pub VersionsIn : List Row → List Offer → Type 0
 VersionsIn rows found =
     (binaries : List BinaryRow) × (rows ≡ map binary_cells binaries) × (found ≡ map (λ binary. binary.version) binaries)
 

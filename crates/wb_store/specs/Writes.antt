@@ -20,6 +20,9 @@ pub data OfficeWrite : Type 0 where
   AddsArch : List ℕ × OsCpu → OfficeWrite
   -- adds a builder for an architecture
   AddsBuilder : Key → OfficeWrite
+  -- takes an architecture out, and takes a builder from an architecture
+  RemovesArch : List ℕ → OfficeWrite
+  RemovesBuilder : Key → OfficeWrite
   -- puts a record at its key, or in place of the one that is there; puts it in place of the one that is there; and takes out the one at a key
   PutsRecord : Entry → OfficeWrite
   ReplacesRecord : Entry → OfficeWrite
@@ -30,6 +33,8 @@ abbrev pub table_written : OfficeWrite → Table
 table_written (SetsCounts handed accepted) = Office
 table_written (AddsArch arch) = Arch
 table_written (AddsBuilder pair) = Builder
+table_written (RemovesArch name) = Arch
+table_written (RemovesBuilder pair) = Builder
 table_written (PutsRecord entry) = SourceRecord
 table_written (ReplacesRecord entry) = SourceRecord
 table_written (RemovesRecord key) = SourceRecord
@@ -39,6 +44,8 @@ abbrev pub written_by : OfficeWrite → Row
 written_by (SetsCounts handed accepted) = number handed ∷ number accepted ∷ []
 written_by (AddsArch arch) = arch_cells arch
 written_by (AddsBuilder pair) = builder_cells pair
+written_by (RemovesArch name) = Text name ∷ []
+written_by (RemovesBuilder pair) = Text pair.0 ∷ Text pair.1 ∷ []
 written_by (PutsRecord entry) = record_cells entry
 written_by (ReplacesRecord entry) = record_cells entry
 written_by (RemovesRecord key) = Text key.0 ∷ Text key.1 ∷ []
@@ -48,6 +55,8 @@ abbrev pub IsTextOfWrite : OfficeWrite → List ℕ → Type 0
 IsTextOfWrite (SetsCounts handed accepted) text = UpdatesAmong tables.office text [] sql.office_sets 2
 IsTextOfWrite (AddsArch arch) text = InsertsAmong tables.arch text sql.arch_row 3
 IsTextOfWrite (AddsBuilder pair) text = InsertsAmong tables.builder text sql.builder_row 2
+IsTextOfWrite (RemovesArch name) text = DeletesAmong tables.arch text sql.has_arch_name 1
+IsTextOfWrite (RemovesBuilder pair) text = DeletesAmong tables.builder text sql.has_pair 2
 IsTextOfWrite (PutsRecord entry) text = UpsertsRecords text
 IsTextOfWrite (ReplacesRecord entry) text = UpdatesAmong tables.source_record text sql.has_record_key sql.record_sets 16
 IsTextOfWrite (RemovesRecord key) text = DeletesAmong tables.source_record text sql.has_record_key 2

@@ -1,16 +1,14 @@
 //! The tables of an office in a transaction, as those in which a merge runs: the rows of a merge,
 //! and its savepoint.
 //!
-//! What stands in them is the state of the office with the rows of the merge, and, once the merge set its savepoint, what stood
-//! in them then. Each call is one statement of the transaction, or several that clear rows. A call
-//! on the rows of the lists or
-//! on the savepoint says by clauses of its own what its statements do; those of the trait follow
-//! from them. Its fault is that
-//! of its statement, with its table, and for the savepoint that of the office: `Damaged` with row 0
-//! also if the transaction is
-//! over; or `Memory`; or `Damaged` with row 0 of the records for a record that was looked up, if
-//! its take number is above the
-//! limit. After a fault the caller takes the transaction back (this project's own).
+//! What stands in them is the state of the office with the rows of the merge, and, once the merge
+//! set its savepoint, what stood in them then. Each call is one statement of the transaction, or
+//! several that clear rows. A call on the rows of the lists or on the savepoint says by clauses of
+//! its own what its statements do; those of the trait follow from them. Its fault is that of its
+//! statement, with its table, and for the savepoint that of the office: `Damaged` with row 0 also
+//! if the transaction is over; or `Memory`; or `Damaged` with row 0 of the records for a record
+//! that was looked up, if its take number is above the limit. After a fault the caller takes the
+//! transaction back (this project's own).
 ghost use Rattle.std.specs.Prelude.{◌≡◌, ◌↔◌, ◌<◌, ◌^◌, false, true, IfErr, IfOk, IfSome, IsOk};
 ghost use Rattle.std.specs.Prelude.{IsTrue, map as each};
 ghost use Rattle.sqlite.specs.Held.{state};
@@ -61,7 +59,8 @@ fn within(place: u64) -> u64
     }
 }
 
-/// Whether the take number of the record that was looked up, if there are both, is at most the limit.
+/// Whether the take number of the record that was looked up, if there are both, is at most the
+/// limit.
 fn fits(found: &Option<Record>) -> bool
     ensures value { IsTrue result ↔ IfSome found.now HasFittingTake }
 {
@@ -71,8 +70,8 @@ fn fits(found: &Option<Record>) -> bool
     }
 }
 
-/// The record that was looked up, if there is one, if its take number is at most the limit. The fault is `Damaged` with row 0 of
-/// the records if it is not.
+/// The record that was looked up, if there is one, if its take number is at most the limit. The
+/// fault is `Damaged` with row 0 of the records if it is not.
 fn fitting(found: Option<Record>) -> Result<Option<Record>, StoreFault>
     ensures value { IfOk result (λ answered. (answered ≡ found) × IfSome answered HasFittingTake) }
     ensures fault { IfErr result (λ fault. (fault ≡ unfit SourceRecord) × ¬ IfSome found HasFittingTake) }
@@ -195,9 +194,10 @@ impl<S: Alter + Drop> MergeTables for Writing<'_, S> {
         binaries_in(rows)
     }
 
-    /// The versions of the binary packages of a merge that have this name, by the place of the
-    /// packages in the list. The faults are those of [`binaries_of`](Writing::binaries_of).
-    fn versions_named(&mut self, name: &Text) -> Result<Vec<Version>, StoreFault>
+    /// The versions in which a merge has this name, as that of a package or as one that a package
+    /// provides, by the place of the rows; none where it is provided without one. The faults are
+    /// those of [`binaries_of`](Writing::binaries_of).
+    fn versions_named(&mut self, name: &Text) -> Result<Vec<Option<Version>>, StoreFault>
         ensures same_reference { self.new.store.ghost_name ≡ self.old.store.ghost_name }
         ensures same_merge { KeepsMerge self.old self.new }
         ensures looks_up { LooksUpScratch S.Store (ask.BinariesNamed name.now)

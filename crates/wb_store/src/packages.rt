@@ -2,7 +2,8 @@
 //! them.
 ghost use Rattle.std.specs.Prelude.{◌≡◌, IfOk, IfErr, map as each};
 ghost use Rattle.wb_rows.specs.Scratch.{binary_cells, source_cells};
-ghost use Rattle.wb_states.specs.declared.store_fault.Table.TheVariants.{ScratchBinary, ScratchSource};
+ghost use Rattle.wb_states.specs.declared.store_fault.Table.TheVariants.{ScratchBinary};
+ghost use Rattle.wb_states.specs.declared.store_fault.Table.TheVariants.{ScratchSource};
 ghost use Rattle.wb_store.specs.Faults.{IsUnfit};
 ghost use Rattle.wb_store.specs.ScratchLookups.{AreBinaries, AreNames, AreSources, DistinctNames};
 ghost use Rattle.wb_store.specs.ScratchLookups.{HasBinary, HasSource, VersionsIn};
@@ -56,8 +57,8 @@ pub(crate) fn binaries_in(rows: Vec<Row>) -> Result<Vec<BinaryRow>, StoreFault>
     Ok(made)
 }
 
-/// The versions of packages, in their order.
-fn versions_of(rows: Vec<BinaryRow>) -> Result<Vec<Version>, AllocError>
+/// The versions of rows, in their order, or none where there is none.
+fn versions_of(rows: Vec<BinaryRow>) -> Result<Vec<Option<Version>>, AllocError>
     ensures value { IfOk result (λ versions. versions.items ≡ each (λ row. row.version) rows.items) }
 {
     let mut versions = Vec::new(*rows.allocator());
@@ -67,9 +68,9 @@ fn versions_of(rows: Vec<BinaryRow>) -> Result<Vec<Version>, AllocError>
     Ok(versions)
 }
 
-/// The versions of the binary packages in these rows, in their order. The table is damaged if a row
-/// is not that of a package.
-pub(crate) fn versions_in(rows: Vec<Row>) -> Result<Vec<Version>, StoreFault>
+/// The versions in these rows of binary packages and of names that they provide, in their order, or
+/// none where there is none. The table is damaged if a row is not that of a package.
+pub(crate) fn versions_in(rows: Vec<Row>) -> Result<Vec<Option<Version>>, StoreFault>
     ensures value { IfOk result (λ made. VersionsIn rows.items made.items) }
     ensures err { IfErr result (IsUnfit ScratchBinary (AreBinaries rows.items)) }
 {
@@ -77,8 +78,8 @@ pub(crate) fn versions_in(rows: Vec<Row>) -> Result<Vec<Version>, StoreFault>
     Ok(versions_of(packages)?)
 }
 
-/// The names in these rows, without each that is the same as the one before it. The table is damaged if a row is not that
-/// of a name.
+/// The names in these rows, without each that is the same as the one before it. The table is
+/// damaged if a row is not that of a name.
 pub(crate) fn distinct_names_in(rows: Vec<Row>) -> Result<Vec<Text>, StoreFault>
     ensures value { IfOk result (λ made. DistinctNames rows.items made.items) }
     ensures err { IfErr result (IsUnfit ScratchSource (AreNames rows.items)) }

@@ -17,7 +17,8 @@ use wb_sql::statements;
 use wb_states::{Counts, KeyedRecord, Record, State, StoreFault, Table};
 
 impl<S: Alter + Drop> Store<S> {
-    /// The two counts of the office: the greatest take number that was given, and how many commands were accepted.
+    /// The two counts of the office: the greatest take number that was given, and how many commands
+    /// were accepted.
     pub fn office_row(&mut self) -> Result<Counts, StoreFault>
         ensures looks_up { LooksUp S.Store ask.Office (λ machine counts.
             (counts.handed ≡ machine.handed) × (counts.accepted ≡ machine.accepted))
@@ -45,8 +46,8 @@ impl<S: Alter + Drop> Store<S> {
         Ok(current_in(rows))
     }
 
-    /// The record that is held under the take number, or none if no record is, as for a number that was never
-    /// given.
+    /// The record that is held under the take number, or none if no record is, as for a number that
+    /// was never given.
     pub fn by_take(&mut self, take_number: u64) -> Result<Option<KeyedRecord>, StoreFault>
         ensures looks_up { LooksUp S.Store (ask.TakenAs take_number) (λ machine found.
             IsConsistent machine → option_map entry_of found ≡ taken_as machine take_number)
@@ -60,7 +61,8 @@ impl<S: Alter + Drop> Store<S> {
         Ok(first_in(rows))
     }
 
-    /// The records of the architecture, by the names of their source packages: none if it was never added.
+    /// The records of the architecture, by the names of their source packages: none if it was never
+    /// added.
     pub fn all_of(&mut self, arch: &Text) -> Result<Vec<KeyedRecord>, StoreFault>
         ensures looks_up { LooksUp S.Store (ask.RecordsOf arch.now) (λ machine rows.
             each entry_of rows.items ≡ rows_of machine arch.now) self.old self.new result }
@@ -72,9 +74,9 @@ impl<S: Alter + Drop> Store<S> {
         )
     }
 
-    /// The source packages of the architecture that have a record, by name: none if it was never added. No record is read,
-    /// only the index of their keys.
-    pub(crate) fn recorded_names(&mut self, arch: &Text) -> Result<Vec<Text>, StoreFault>
+    /// The source packages of the architecture that have a record, by name: none if it was never
+    /// added. No record is read, only the index of their keys.
+    pub fn recorded_names(&mut self, arch: &Text) -> Result<Vec<Text>, StoreFault>
         ensures looks_up { LooksUp S.Store (ask.NamesOf arch.now) (λ machine names.
             names.items ≡ recorded_names machine.records arch.now) self.old self.new result }
     {
@@ -87,8 +89,8 @@ impl<S: Alter + Drop> Store<S> {
         names_in(Table::SourceRecord, rows)
     }
 
-    /// The records of the architecture that are in the state, by the names of their source packages: none if it was
-    /// never added.
+    /// The records of the architecture that are in the state, by the names of their source
+    /// packages: none if it was never added.
     pub fn in_state(&mut self, arch: &Text, state: State) -> Result<Vec<KeyedRecord>, StoreFault>
         ensures looks_up { LooksUp S.Store (ask.InState arch.now state) (λ machine rows.
             each entry_of rows.items ≡ rows_in machine arch.now state) self.old self.new result }

@@ -11,6 +11,7 @@ use Rattle.wb_words.specs.Arguments.{word_of, number_of, integer_of, optional_nu
 use Rattle.wb_words.specs.Words.{add_arch_of, add_builder_of, enter_of, give_back_of, dep_wait_of, fail_of}
 use Rattle.wb_words.specs.Words.{not_for_us_of, rebuild_of, build_priority_of, next_of, take_of, built_of, uploaded_of}
 use Rattle.wb_words.specs.Words.{put_back_of, waits_of, attempted_of, operator_command, builder_command, command_named}
+use Rattle.wb_words.specs.Words.{forget_of, remove_arch_of, remove_builder_of}
 
 -- what may be there is a command of this name
 abbrev IsNamed : Text → Option Command → Type 0
@@ -42,6 +43,14 @@ add_builder_of-named : (rows : List Row) → IsNamed (codes "add-builder") (add_
 unfolding add_builder_of
 add_builder_of-named rows = behind-named _ _ (λ _. mapped-named _ _ (λ _. refl) (word_of (codes "arch") rows)) (word_of (codes "name") rows)
 
+remove_arch_of-named : (rows : List Row) → IsNamed (codes "remove-arch") (remove_arch_of rows)
+unfolding remove_arch_of
+remove_arch_of-named rows = mapped-named _ _ (λ _. refl) (word_of (codes "name") rows)
+
+remove_builder_of-named : (rows : List Row) → IsNamed (codes "remove-builder") (remove_builder_of rows)
+unfolding remove_builder_of
+remove_builder_of-named rows = behind-named _ _ (λ _. mapped-named _ _ (λ _. refl) (word_of (codes "arch") rows)) (word_of (codes "name") rows)
+
 enter_of-named : (rows : List Row) → IsNamed (codes "enter") (enter_of rows)
 unfolding enter_of
 enter_of-named rows = behind-named _ _ (λ _. behind-named _ _ (λ _. mapped-named _ _ (λ _. refl) (word_of (codes "section") rows)) (word_of (codes "priority") rows)) (named_source_of rows)
@@ -69,6 +78,10 @@ rebuild_of-named rows = behind-named _ _ (λ _. mapped-named _ _ (λ _. refl) (n
 build_priority_of-named : (rows : List Row) → IsNamed (codes "build-priority") (build_priority_of rows)
 unfolding build_priority_of
 build_priority_of-named rows = behind-named _ _ (λ _. mapped-named _ _ (λ _. refl) (integer_of (codes "value") rows)) (named_source_of rows)
+
+forget_of-named : (rows : List Row) → IsNamed (codes "forget") (forget_of rows)
+unfolding forget_of
+forget_of-named rows = mapped-named _ _ (λ _. refl) (named_source_of rows)
 
 next_of-named : (rows : List Row) → IsNamed (codes "next") (next_of rows)
 unfolding next_of
@@ -102,6 +115,8 @@ operator-named : (name : Text) (rows : List Row) (command : Command) → operato
 unfolding operator_command
 operator-named name rows = ask-named name (codes "add-arch") (add_arch_of rows) _ (add_arch_of-named rows)
     (ask-named name (codes "add-builder") (add_builder_of rows) _ (add_builder_of-named rows)
+    (ask-named name (codes "remove-arch") (remove_arch_of rows) _ (remove_arch_of-named rows)
+    (ask-named name (codes "remove-builder") (remove_builder_of rows) _ (remove_builder_of-named rows)
     (ask-named name (codes "enter") (enter_of rows) _ (enter_of-named rows)
     (ask-named name (codes "give-back") (give_back_of rows) _ (give_back_of-named rows)
     (ask-named name (codes "dep-wait") (dep_wait_of rows) _ (dep_wait_of-named rows)
@@ -109,7 +124,8 @@ operator-named name rows = ask-named name (codes "add-arch") (add_arch_of rows) 
     (ask-named name (codes "not-for-us") (not_for_us_of rows) _ (not_for_us_of-named rows)
     (ask-named name (codes "rebuild") (rebuild_of rows) _ (rebuild_of-named rows)
     (ask-named name (codes "build-priority") (build_priority_of rows) _ (build_priority_of-named rows)
-    (λ command e. absurd (none-some command e))))))))))
+    (ask-named name (codes "forget") (forget_of rows) _ (forget_of-named rows)
+    (λ command e. absurd (none-some command e)))))))))))))
 
 builder-named : (name : Text) (rows : List Row) (command : Command) → builder_command name rows ≡ Some command → name ≡ name_of_command command
 unfolding builder_command

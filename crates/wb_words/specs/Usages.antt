@@ -42,6 +42,8 @@ arch_and_builder = word_arguments (codes "arch" ∷ codes "builder" ∷ [])
 abbrev pub operator_usages : List Usage
 operator_usages = (codes "add-arch", word_arguments (codes "name" ∷ codes "os" ∷ codes "cpu" ∷ []))
     ∷ (codes "add-builder", word_arguments (codes "name" ∷ codes "arch" ∷ []))
+    ∷ (codes "remove-arch", word_arguments (codes "name" ∷ []))
+    ∷ (codes "remove-builder", word_arguments (codes "name" ∷ codes "arch" ∷ []))
     ∷ (codes "enter", subject ++ word_arguments (codes "priority" ∷ codes "section" ∷ []))
     ∷ (codes "give-back", subject)
     ∷ (codes "dep-wait", subject ++ (codes "relations", SomeWords) ∷ [])
@@ -49,6 +51,7 @@ operator_usages = (codes "add-arch", word_arguments (codes "name" ∷ codes "os"
     ∷ (codes "not-for-us", subject ++ (codes "note", AnyWords) ∷ [])
     ∷ (codes "rebuild", subject ++ (codes "number", Word) ∷ (codes "message", AnyWords) ∷ [])
     ∷ (codes "build-priority", subject ++ word_arguments (codes "value" ∷ []))
+    ∷ (codes "forget", subject)
     ∷ []
 
 -- the subcommands of builders

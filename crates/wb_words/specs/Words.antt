@@ -8,8 +8,8 @@ use Rattle.std.specs.Str.{bytes_eq}
 use Rattle.clap.specs.Words.{Kinds, Row, Text, fault_of, subcommand_of}
 use Rattle.wb_states.specs.declared.command.Command.{Command}
 use Rattle.wb_states.specs.Forms.{AddArch, AddBuilder, Attempted, BuildPriority, Built, DepWait}
-use Rattle.wb_states.specs.Forms.{Enter, Fail, GiveBack, Next, NotForUs}
-use Rattle.wb_states.specs.Forms.{PutBack, Rebuild, Take, Uploaded, Waits}
+use Rattle.wb_states.specs.Forms.{Enter, Fail, Forget, GiveBack, Next, NotForUs}
+use Rattle.wb_states.specs.Forms.{PutBack, Rebuild, RemoveArch, RemoveBuilder, Take, Uploaded, Waits}
 use Rattle.wb_states.specs.declared.query.Query.{Query}
 use Rattle.wb_states.specs.declared.query.Query.TheVariants as query
 use Rattle.wb_words.specs.Arguments.{integer_of, number_of, optional_number_of, parts_of, named_source_of, word_of}
@@ -30,6 +30,15 @@ add_arch_of rows = option_and_then (λ name. option_and_then (λ os. option_map 
 -- to add a builder
 unfoldable pub add_builder_of : List Row → Option Command
 add_builder_of rows = option_and_then (λ name. option_map (λ arch. AddBuilder name arch)
+    (word_of (codes "arch") rows)) (word_of (codes "name") rows)
+
+-- to take an architecture away
+unfoldable pub remove_arch_of : List Row → Option Command
+remove_arch_of rows = option_map (λ name. RemoveArch name) (word_of (codes "name") rows)
+
+-- to let a builder build no more for an architecture
+unfoldable pub remove_builder_of : List Row → Option Command
+remove_builder_of rows = option_and_then (λ name. option_map (λ arch. RemoveBuilder name arch)
     (word_of (codes "arch") rows)) (word_of (codes "name") rows)
 
 -- to enter a source package
@@ -70,17 +79,25 @@ build_priority_of rows = option_and_then (λ subject. option_map (λ value.
     BuildPriority subject.arch subject.source subject.version value)
     (integer_of (codes "value") rows)) (named_source_of rows)
 
+-- to take the record of a source package away
+unfoldable pub forget_of : List Row → Option Command
+forget_of rows = option_map (λ subject.
+    Forget subject.arch subject.source subject.version) (named_source_of rows)
+
 -- the operator's command of this name with these arguments
 unfoldable pub operator_command : Text → List Row → Option Command
 operator_command name rows = if bytes_eq name (codes "add-arch") then add_arch_of rows
     else (if bytes_eq name (codes "add-builder") then add_builder_of rows
+    else (if bytes_eq name (codes "remove-arch") then remove_arch_of rows
+    else (if bytes_eq name (codes "remove-builder") then remove_builder_of rows
     else (if bytes_eq name (codes "enter") then enter_of rows
     else (if bytes_eq name (codes "give-back") then give_back_of rows
     else (if bytes_eq name (codes "dep-wait") then dep_wait_of rows
     else (if bytes_eq name (codes "fail") then fail_of rows
     else (if bytes_eq name (codes "not-for-us") then not_for_us_of rows
     else (if bytes_eq name (codes "rebuild") then rebuild_of rows
-    else (if bytes_eq name (codes "build-priority") then build_priority_of rows else None))))))))
+    else (if bytes_eq name (codes "build-priority") then build_priority_of rows
+    else (if bytes_eq name (codes "forget") then forget_of rows else None)))))))))))
 
 -- ---- the commands of builders
 

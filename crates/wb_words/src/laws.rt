@@ -7,9 +7,9 @@ ghost use Rattle.clap.specs.Words.{Row, Text};
 ghost use Rattle.wb_states.specs.Commands.{name_of_command};
 ghost use Rattle.wb_states.specs.declared.command.Command.{Command as AnyCommand};
 ghost use Rattle.wb_states.specs.Forms.{AddArch, AddBuilder, Attempted, BuildPriority, Built};
-ghost use Rattle.wb_states.specs.Forms.{DepWait, Enter, Fail};
+ghost use Rattle.wb_states.specs.Forms.{DepWait, Enter, Fail, Forget};
 ghost use Rattle.wb_states.specs.Forms.{GiveBack, Next, NotForUs};
-ghost use Rattle.wb_states.specs.Forms.{PutBack, Rebuild, Take};
+ghost use Rattle.wb_states.specs.Forms.{PutBack, Rebuild, RemoveArch, RemoveBuilder, Take};
 ghost use Rattle.wb_states.specs.Forms.{Uploaded, Waits};
 ghost use Rattle.wb_states.specs.declared.query.Query.TheVariants as query;
 ghost use Rattle.wb_words.specs.Arguments.{integer_in, joined, number_in, parts_in};
@@ -19,7 +19,8 @@ ghost use Rattle.wb_words.specs.Start.{start_faults, store_in};
 ghost use Rattle.wb_words.specs.Usages.{usage_named, wb_usages};
 ghost use Rattle.wb_words.specs.Words.{command_named, invocation_by, invocation_in, IsQuery};
 ghost use Rattle.wb_words.specs.declared.start.Start.TheVariants.{Ask, CarryOut, Help, Run, Serve};
-ghost use Rattle.wb_words.specs.declared.words.Invocation.TheVariants.{Command, Merge, Query, Report};
+ghost use Rattle.wb_words.specs.declared.words.Invocation.TheVariants.{Command, Merge, Query};
+ghost use Rattle.wb_words.specs.declared.words.Invocation.TheVariants.{Report};
 
 /// Each subcommand of operators with its arguments is a command.
 pub fn operator_lines_are_commands()
@@ -28,6 +29,10 @@ pub fn operator_lines_are_commands()
         ≡ Some (Command (AddArch (codes "amd64") (codes "linux") (codes "x86"))) }
     ensures add_builder { invocation_by (codes "add-builder b1 amd64")
         ≡ Some (Command (AddBuilder (codes "b1") (codes "amd64"))) }
+    ensures remove_arch { invocation_by (codes "remove-arch amd64")
+        ≡ Some (Command (RemoveArch (codes "amd64"))) }
+    ensures remove_builder { invocation_by (codes "remove-builder b1 amd64")
+        ≡ Some (Command (RemoveBuilder (codes "b1") (codes "amd64"))) }
     // of a source package
     ensures enter { invocation_by (codes "enter amd64 hello 1.0-1 optional devel")
         ≡ Some (Command (Enter (codes "amd64") (codes "hello") (codes "1.0-1") (codes "optional")
@@ -45,6 +50,8 @@ pub fn operator_lines_are_commands()
         ≡ Some (Command (Rebuild (codes "amd64") (codes "hello") (codes "1.0-1") 2 [])) }
     ensures build_priority { invocation_by (codes "build-priority amd64 hello 1.0-1 5")
         ≡ Some (Command (BuildPriority (codes "amd64") (codes "hello") (codes "1.0-1") (pos 5))) }
+    ensures forget { invocation_by (codes "forget amd64 hello 1.0-1")
+        ≡ Some (Command (Forget (codes "amd64") (codes "hello") (codes "1.0-1"))) }
 {}
 
 /// Each subcommand of builders with its arguments is a command.
@@ -228,6 +235,10 @@ pub fn any_words_are_arguments()
         ∷ cpu ∷ []) ≡ Some (Command (AddArch name os cpu)) }
     ensures add_builder { (name arch : List ℕ) → invocation_in (codes "add-builder" ∷ codes "--" ∷ name
         ∷ arch ∷ []) ≡ Some (Command (AddBuilder name arch)) }
+    ensures remove_arch { (name : List ℕ) → invocation_in (codes "remove-arch" ∷ codes "--" ∷ name ∷ [])
+        ≡ Some (Command (RemoveArch name)) }
+    ensures remove_builder { (name arch : List ℕ) → invocation_in (codes "remove-builder" ∷ codes "--"
+        ∷ name ∷ arch ∷ []) ≡ Some (Command (RemoveBuilder name arch)) }
     ensures enter { (arch source version priority section : List ℕ)
         → invocation_in (codes "enter" ∷ codes "--" ∷ arch ∷ source ∷ version ∷ priority ∷ section ∷ [])
         ≡ Some (Command (Enter arch source version priority section)) }
@@ -249,6 +260,8 @@ pub fn any_words_are_arguments()
     ensures build_priority { (arch source version value : List ℕ)
         → invocation_in (codes "build-priority" ∷ codes "--" ∷ arch ∷ source ∷ version ∷ value ∷ [])
         ≡ option_map (λ n. Command (BuildPriority arch source version n)) (integer_in value) }
+    ensures forget { (arch source version : List ℕ) → invocation_in (codes "forget" ∷ codes "--"
+        ∷ arch ∷ source ∷ version ∷ []) ≡ Some (Command (Forget arch source version)) }
     // of builders
     ensures next { (arch builder : List ℕ) → invocation_in (codes "next" ∷ codes "--" ∷ arch ∷ builder
         ∷ []) ≡ Some (Command (Next arch builder None)) }

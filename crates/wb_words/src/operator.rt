@@ -2,8 +2,9 @@
 ghost use Rattle.clap.specs.Words.{found_of, rows_of};
 ghost use Rattle.wb_words.specs.Faults.{Reads};
 ghost use Rattle.wb_words.specs.Words.{add_arch_of, add_builder_of, build_priority_of, dep_wait_of};
-ghost use Rattle.wb_words.specs.Words.{enter_of, fail_of, give_back_of, not_for_us_of};
-ghost use Rattle.wb_words.specs.Words.{operator_command, rebuild_of};
+ghost use Rattle.wb_words.specs.Words.{enter_of, fail_of, forget_of, give_back_of, not_for_us_of};
+ghost use Rattle.wb_words.specs.Words.{operator_command, rebuild_of, remove_arch_of};
+ghost use Rattle.wb_words.specs.Words.{remove_builder_of};
 
 use crate::WordsFault;
 use crate::argument::{integer, number, read_named_source, word, words};
@@ -13,7 +14,7 @@ use std::alloc::Global;
 use wb_states::{Command, command};
 
 /// The subcommands with their arguments.
-pub static USAGES: [(&str, &[(&str, ArgumentKind)]); 9] = [
+pub static USAGES: [(&str, &[(&str, ArgumentKind)]); 12] = [
     (
         "add-arch",
         &[
@@ -24,6 +25,11 @@ pub static USAGES: [(&str, &[(&str, ArgumentKind)]); 9] = [
     ),
     (
         "add-builder",
+        &[("name", ArgumentKind::Word), ("arch", ArgumentKind::Word)],
+    ),
+    ("remove-arch", &[("name", ArgumentKind::Word)]),
+    (
+        "remove-builder",
         &[("name", ArgumentKind::Word), ("arch", ArgumentKind::Word)],
     ),
     (
@@ -90,6 +96,14 @@ pub static USAGES: [(&str, &[(&str, ArgumentKind)]); 9] = [
             ("value", ArgumentKind::Word),
         ],
     ),
+    (
+        "forget",
+        &[
+            ("arch", ArgumentKind::Word),
+            ("source", ArgumentKind::Word),
+            ("version", ArgumentKind::Word),
+        ],
+    ),
 ];
 
 /// The operator's command `name` with these arguments. The errors are `NoCommand` if `name` is no
@@ -106,6 +120,8 @@ pub(crate) fn operator_command(
     match name {
         "add-arch" => add_arch(alloc, arguments),
         "add-builder" => add_builder(alloc, arguments),
+        "remove-arch" => remove_arch(alloc, arguments),
+        "remove-builder" => remove_builder(alloc, arguments),
         "enter" => enter(alloc, arguments),
         "give-back" => give_back(alloc, arguments),
         "dep-wait" => dep_wait(alloc, arguments),
@@ -113,6 +129,7 @@ pub(crate) fn operator_command(
         "not-for-us" => not_for_us(alloc, arguments),
         "rebuild" => rebuild(alloc, arguments),
         "build-priority" => build_priority(alloc, arguments),
+        "forget" => forget(alloc, arguments),
         _ => Err(WordsFault::NoCommand),
     }
 }
@@ -133,6 +150,25 @@ fn add_builder(alloc: Global, arguments: &ArgMatches<'_>) -> Result<Command, Wor
     ensures value { Reads (add_builder_of (rows_of (found_of arguments.now))) result }
 {
     Ok(Command::AddBuilder(command::AddBuilder {
+        name: word(alloc, arguments, "name")?,
+        arch: word(alloc, arguments, "arch")?,
+    }))
+}
+
+#[tactic(auto, unfolding(crate::specs::Words::remove_arch_of))]
+fn remove_arch(alloc: Global, arguments: &ArgMatches<'_>) -> Result<Command, WordsFault>
+    ensures value { Reads (remove_arch_of (rows_of (found_of arguments.now))) result }
+{
+    Ok(Command::RemoveArch(command::RemoveArch {
+        name: word(alloc, arguments, "name")?,
+    }))
+}
+
+#[tactic(auto, unfolding(crate::specs::Words::remove_builder_of))]
+fn remove_builder(alloc: Global, arguments: &ArgMatches<'_>) -> Result<Command, WordsFault>
+    ensures value { Reads (remove_builder_of (rows_of (found_of arguments.now))) result }
+{
+    Ok(Command::RemoveBuilder(command::RemoveBuilder {
         name: word(alloc, arguments, "name")?,
         arch: word(alloc, arguments, "arch")?,
     }))
@@ -227,5 +263,17 @@ fn build_priority(alloc: Global, arguments: &ArgMatches<'_>) -> Result<Command, 
         source: subject.source,
         version: subject.version,
         value: integer(arguments, "value")?,
+    }))
+}
+
+#[tactic(auto, unfolding(crate::specs::Words::forget_of))]
+fn forget(alloc: Global, arguments: &ArgMatches<'_>) -> Result<Command, WordsFault>
+    ensures value { Reads (forget_of (rows_of (found_of arguments.now))) result }
+{
+    let subject = read_named_source(alloc, arguments)?;
+    Ok(Command::Forget(command::Forget {
+        arch: subject.arch,
+        source: subject.source,
+        version: subject.version,
     }))
 }

@@ -1,6 +1,8 @@
 //! What the program is started for.
-ghost use Rattle.std.specs.Prelude.{◌≡◌, ◌≢◌, false, if◌then◌else◌, codes, map, option_map, IfErr, IfNone, IfOk, IfSome};
-ghost use Rattle.clap.specs.Words.{app_of, first_of, found_of, kind_of, new_app, rows_of, subcommand_rows_of, with_subcommand};
+ghost use Rattle.std.specs.Prelude.{◌≡◌, ◌≢◌, false, if◌then◌else◌, codes, map, option_map, IfErr};
+ghost use Rattle.std.specs.Prelude.{IfNone, IfOk, IfSome};
+ghost use Rattle.clap.specs.Words.{app_of, first_of, found_of, kind_of, new_app, rows_of};
+ghost use Rattle.clap.specs.Words.{subcommand_rows_of, with_subcommand};
 ghost use Rattle.clap.specs.declared.builder.command.Command.TheViews.{out-Command};
 ghost use Rattle.clap.specs.declared.error.kind.ErrorKind.TheVariants.{OutOfMemory};
 ghost use Rattle.wb_words.specs.Arguments.{word_of};
@@ -107,6 +109,13 @@ The commands are:
   add-builder NAME ARCH
           Lets a builder build for an architecture
           Example: add-builder b1 amd64
+  remove-arch NAME
+          Removes an architecture and all its records, if no builder holds one
+          Example: remove-arch amd64
+  remove-builder NAME ARCH
+          Lets a builder no longer build for an architecture, if it holds none of
+          its source packages
+          Example: remove-builder b1 amd64
   enter ARCH SOURCE VERSION PRIORITY SECTION
           Puts a new source package into the queue of an architecture
           Example: enter amd64 hello 1.0-1 optional devel
@@ -152,6 +161,9 @@ The commands are:
           Gives a source package another build priority, from -1000 to 1000. The
           greatest is built first
           Example: build-priority amd64 hello 1.0-1 -50
+  forget ARCH SOURCE VERSION
+          Removes the record of a source package, if no builder holds it
+          Example: forget amd64 hello 1.0-1
   merge SOURCESFILE PART..
           Brings the records in line with the lists of the archive. A PART is
           ARCH=PACKAGESFILE. Give one for each architecture

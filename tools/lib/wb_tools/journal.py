@@ -17,8 +17,8 @@ GREATEST = 1 << 63  # no count and no take number is as great
 HAND_OUTS = ("next", "take")
 IMPORTS = ("merge", "report")
 
-# The state into which each command moves the package that it names; a merge and a report name theirs in files, and what
-# they moved stands in a journal only if the line has their changes.
+# The state into which each command moves the package that it names, empty if it has no record then; a merge and a report
+# name theirs in files, and what they moved stands in a journal only if the line has their changes.
 STATE_AFTER = {
     "enter": "Needs-Build",
     "next": "Building",
@@ -33,10 +33,14 @@ STATE_AFTER = {
     "fail": "Failed",
     "not-for-us": "Not-For-Us",
     "rebuild": "Needs-Build",
+    "forget": "",
 }
 
 # Commands that name a package and leave it in its state.
 STAYS = ("build-priority",)
+
+# The command after which no package of an architecture has a record.
+REMOVES_ALL = "remove-arch"
 
 # The arguments that are texts for a person, relations, or a build priority.
 TEXTS = ("relations", "reason", "note", "message", "value")

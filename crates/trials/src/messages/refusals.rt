@@ -86,6 +86,7 @@ pub(crate) fn show_plain<W: Write>(output: &mut W) -> Result<()> {
         Refusal::TextTooLong,
         Refusal::Spent,
         Refusal::RepeatedArch,
+        Refusal::StillHeld,
         Refusal::Closed,
         Refusal::Memory,
     ];

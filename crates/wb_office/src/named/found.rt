@@ -76,15 +76,15 @@ fn find_first<S: Alter + Drop>(
         ≡ first_named machine names.now) store.old store.new result }
 {
     match *names {
-        Subject::Nothing => Ok(None),
+        Subject::Nothing | Subject::Held(_) => Ok(None),
         Subject::Source(arch, source) => find_source(store, arch, source),
         Subject::Taken(take_number) => store.by_take(take_number),
         Subject::Head(next) => store.head(&next.arch),
     }
 }
 
-/// The other records that are named, by take number: what a builder that asks again holds. The
-/// faults are those of the look-up.
+/// The other records that are named, by take number: what a builder holds that asks again, or that
+/// is taken from an architecture. The faults are those of the look-up.
 fn find_others<S: Alter + Drop>(
     alloc: Global,
     store: &mut Store<S>,
@@ -95,6 +95,7 @@ fn find_others<S: Alter + Drop>(
 {
     match *names {
         Subject::Head(next) if next.after.is_some() => store.held_by(&next.builder),
+        Subject::Held(builder) => store.held_by(builder),
         _ => Ok(Vec::new(alloc)),
     }
 }
@@ -173,6 +174,7 @@ fn find_pairs<S: Alter + Drop>(
 {
     match command {
         Command::AddBuilder(adds) => find_pair(alloc, store, adds),
+        Command::RemoveBuilder(removes) => find_pairs_of(alloc, store, &removes.name),
         Command::Next(next) => find_pairs_of(alloc, store, &next.builder),
         Command::Take(take) => find_pairs_of(alloc, store, &take.builder),
         _ => Ok(Vec::new(alloc)),

@@ -18,7 +18,7 @@ pub(crate) fn key_of(
     ensures value { IfOk result (λ key. key ≡ key_named names.now (option_map entry_of first.now)) }
 {
     match *names {
-        Subject::Nothing => Ok(None),
+        Subject::Nothing | Subject::Held(_) => Ok(None),
         Subject::Source(arch, source) => Ok(Some((arch.clone()?, source.clone()?))),
         Subject::Taken(_) | Subject::Head(_) => match first {
             None => Ok(None),

@@ -4,7 +4,7 @@ import sqlite3
 from typing import Any
 
 from wb_tools.journal import (
-    GREATEST, HAND_OUTS, IMPORTS, STATE_AFTER, STAYS, Change, Entry, Key, changes_in, parts_in, text_in,
+    GREATEST, HAND_OUTS, IMPORTS, REMOVES_ALL, STATE_AFTER, STAYS, Change, Entry, Key, changes_in, parts_in, text_in,
 )
 
 # How a builder's report ends a build; all else that ends one is `other`.
@@ -92,6 +92,8 @@ class Writer:
             self.add_move(entry)
         elif entry.name in STAYS:
             self.add_named(entry, None)
+        elif entry.name == REMOVES_ALL:
+            self.add_removals(entry)
 
     # ---- gaps and doubts
 
@@ -149,6 +151,14 @@ class Writer:
         arch, source = name_of(entry.words.get("arch")), name_of(entry.words.get("source"))
         if arch and source:
             self.add(entry, arch=arch, source=source, state=state, version=text_of(entry.words.get("version") or ""))
+
+    def add_removals(self, entry: Entry) -> None:
+        """What the removal of an architecture made of its packages, as far as the journal knows them."""
+        self.flush()
+        statement = "SELECT source FROM package WHERE arch = ? AND state != '' ORDER BY source"
+        arch = name_of(entry.words.get("name"))
+        for (source,) in self.connection.execute(statement, (arch,)).fetchall():
+            self.add(entry, arch=arch, source=source, state="")
 
     def add_hand_out(self, entry: Entry) -> None:
         answer = entry.answer

@@ -21,6 +21,8 @@ MOST_PATH = 8000  # bytes of a path: with its fields it has room in a head
 COMMANDS = {
     "add-arch": "name os cpu",
     "add-builder": "name arch",
+    "remove-arch": "name",
+    "remove-builder": "name arch",
     "enter": "arch source version priority section",
     "next": "arch builder",
     "take": "arch builder source version",
@@ -35,6 +37,7 @@ COMMANDS = {
     "not-for-us": "arch source version note..",
     "rebuild": "arch source version number message..",
     "build-priority": "arch source version value",
+    "forget": "arch source version",
     "merge": "sources parts..",
     "report": "arch file",
 }

@@ -5,7 +5,7 @@ pub returns-clause-none : goal.returns-clause-none
 returns-clause-none c = pairs-none
 
 pub returns-clause-one : goal.returns-clause-one
-returns-clause-one c = pairs-one
+returns-clause-one c = λ pairs name other version wanted. pairs-one pairs name version other wanted
 
 pub returns-clause-stays : goal.returns-clause-stays
 returns-clause-stays c = pairs-stay

@@ -1,6 +1,6 @@
 use Rattle.std.proofs.Common.{sym, ap, ◌∙◌}
 use Rattle.wb_api.specs.Encoding.{refusal_text}
-use Rattle.wb_api.proofs.PlainLemmas.{refusal_text-UnknownArch, refusal_text-UnknownBuilder, refusal_text-WrongArch, refusal_text-UnknownSource, refusal_text-QueueEmpty, refusal_text-NotHeld, refusal_text-AlreadyThere, refusal_text-BadName, refusal_text-BadNumber, refusal_text-TextTooLong, refusal_text-Spent, refusal_text-Closed, refusal_text-Memory, refusal_text-RepeatedArch}
+use Rattle.wb_api.proofs.PlainLemmas.{refusal_text-UnknownArch, refusal_text-UnknownBuilder, refusal_text-WrongArch, refusal_text-UnknownSource, refusal_text-QueueEmpty, refusal_text-NotHeld, refusal_text-AlreadyThere, refusal_text-BadName, refusal_text-BadNumber, refusal_text-TextTooLong, refusal_text-Spent, refusal_text-Closed, refusal_text-Memory, refusal_text-RepeatedArch, refusal_text-StillHeld}
 use Rattle.wb_api.proofs.refusal.constant_text.Goals as goal
 
 pub returns-in-UnknownArch-clause-value : goal.returns-in-UnknownArch-clause-value
@@ -44,3 +44,6 @@ returns-in-Memory-clause-value c = sym (ap refusal_text c.in-Memory.is ∙ refus
 
 pub returns-in-RepeatedArch-clause-value : goal.returns-in-RepeatedArch-clause-value
 returns-in-RepeatedArch-clause-value c = sym (ap refusal_text c.in-RepeatedArch.is ∙ refusal_text-RepeatedArch)
+
+pub returns-in-StillHeld-clause-value : goal.returns-in-StillHeld-clause-value
+returns-in-StillHeld-clause-value c = sym (ap refusal_text c.in-StillHeld.is ∙ refusal_text-StillHeld)

@@ -1,12 +1,11 @@
-use Rattle.std.proofs.Common.{◌≡◌, [], None}
+use Rattle.std.proofs.Common.{◌≡◌, []}
 use Rattle.std.specs.BTreeSet.{contains}
 use Rattle.deb_control.specs.declared.fault.ControlFault.{ControlFault}
 use Rattle.deb_text.specs.Text.{text_cmp}
-use Rattle.wb_states.specs.declared.scratch.BinaryRow.{BinaryRow}
-use Rattle.wb_merge.specs.Scratch.{binary_row_at}
+use Rattle.wb_merge.specs.Scratch.{binary_rows_at}
 use Rattle.wb_archive.specs.Fills.{binaries_wanted}
 use Rattle.wb_archive.specs.Tables.{Tables, with_binaries}
-use Rattle.wb_archive.proofs.FillLemmas.{IsHalfFilled, last_behind}
+use Rattle.wb_archive.proofs.FillLemmas.{IsHalfFilled, IsPlaced}
 use Rattle.wb_archive.proofs.fill.fill_binaries.Given as goal
 
 abbrev pub invariant-loop-passed : goal.invariant-loop-passed
@@ -15,7 +14,8 @@ invariant-loop-passed g l = record {
   earlier : (fault : ControlFault) → g.R.ReadParagraphs.breaks l.list fault → g.R.ReadParagraphs.breaks l.fn.list fault;
   half : (at : Tables) → g.T.MergeTables.is_clean l.tables → g.T.MergeTables.holds l.fn.tables at
       → g.R.ReadParagraphs.passed l.fn.list ≡ 0 → at.now.binaries ≡ []
-      → (filled : IsHalfFilled g.R.ReadParagraphs.may_stand_at (binary_row_at l.arch) (binaries_wanted (contains text_cmp l.waited)) (λ (row : BinaryRow). row.seq)
+      → (filled : IsHalfFilled g.R.ReadParagraphs.may_stand_at (binary_rows_at l.arch)
+      (binaries_wanted (contains text_cmp l.waited))
       (λ rows. g.T.MergeTables.holds l.tables (with_binaries rows at)) l.fn.list l.list (g.R.ReadParagraphs.passed l.list) l.passed)
-      × (l.last ≡ last_behind (contains text_cmp l.waited) None filled.done);
+      × IsPlaced (contains text_cmp l.waited) filled.done l.last l.placed;
 }

@@ -1,9 +1,8 @@
-use Rattle.std.proofs.Common.{◌≡◌, []}
+use Rattle.std.proofs.Common.{◌≡◌, ◌+◌, []}
 use Rattle.deb_control.specs.declared.fault.ControlFault.{ControlFault}
-use Rattle.wb_states.specs.declared.scratch.SourceRow.{SourceRow}
 use Rattle.wb_merge.specs.Scratch.{source_row_at}
 use Rattle.wb_archive.specs.Fills.{sources_wanted}
-use Rattle.wb_archive.specs.Tables.{Tables, with_sources}
+use Rattle.wb_archive.specs.Tables.{IsAfterSources, Tables, with_sources}
 use Rattle.wb_archive.proofs.FillLemmas.{IsHalfFilled}
 use Rattle.wb_archive.proofs.fill.fill_sources.Given as goal
 
@@ -13,6 +12,8 @@ invariant-loop-passed g l = record {
   earlier : (fault : ControlFault) → g.R.ReadParagraphs.breaks l.list fault → g.R.ReadParagraphs.breaks l.fn.list fault;
   half : (at : Tables) → g.T.MergeTables.is_clean l.tables → g.T.MergeTables.holds l.fn.tables at
       → g.R.ReadParagraphs.passed l.fn.list ≡ 0 → at.now.sources ≡ []
-      → IsHalfFilled g.R.ReadParagraphs.may_stand_at source_row_at (sources_wanted l.archs) (λ (row : SourceRow). row.seq)
-      (λ rows. g.T.MergeTables.holds l.tables (with_sources rows at)) l.fn.list l.list (g.R.ReadParagraphs.passed l.list) l.passed;
+      → (filled : IsHalfFilled g.R.ReadParagraphs.may_stand_at source_row_at (sources_wanted l.archs)
+      (λ rows. g.T.MergeTables.holds l.tables (with_sources rows at)) l.fn.list l.list
+      (g.R.ReadParagraphs.passed l.list) l.passed)
+      × IsAfterSources (l.passed + 1) (sources_wanted l.archs filled.done);
 }

@@ -3,8 +3,8 @@ use Rattle.std.specs.Prelude.{nat_lt, pos}
 use Rattle.std.proofs.lemmas.Bool.Decides.{nat_tests}
 use Rattle.serde_json.proofs.OnLiterals.{serde_json_on_literals}
 use Rattle.wb_api.specs.Commands.{add_arch_in, add_builder_in, attempted_in, build_priority_in, dep_wait_in, enter_in}
-use Rattle.wb_api.specs.Commands.{fail_in, give_back_in, next_in}
-use Rattle.wb_api.specs.Commands.{not_for_us_in, rebuild_in, named_source_in, take_in, waits_in}
+use Rattle.wb_api.specs.Commands.{fail_in, forget_in, give_back_in, next_in, not_for_us_in, rebuild_in}
+use Rattle.wb_api.specs.Commands.{remove_arch_in, remove_builder_in, named_source_in, take_in, waits_in}
 use Rattle.wb_api.specs.Commands.{command_in}
 use Rattle.wb_api.specs.declared.route.CommandKind.TheVariants as kind
 use Rattle.wb_journal.specs.Commands.{value_of_command}
@@ -24,8 +24,8 @@ priority arch source version value small =
     rw fits refl
 
 pub returns : goal.returns
-unfolding add_arch_in add_builder_in attempted_in build_priority_in dep_wait_in enter_in fail_in give_back_in next_in
-    not_for_us_in rebuild_in named_source_in take_in waits_in serde_json_on_literals
+unfolding add_arch_in add_builder_in attempted_in build_priority_in dep_wait_in enter_in fail_in forget_in give_back_in
+    next_in not_for_us_in rebuild_in remove_arch_in remove_builder_in named_source_in take_in waits_in serde_json_on_literals
 returns c = record {
   next = next;
   take = λ arch builder source version. refl;
@@ -36,6 +36,8 @@ returns c = record {
   attempted = λ take_number reason. refl;
   add_arch = λ name os cpu. refl;
   add_builder = λ name arch. refl;
+  remove_arch = λ name. refl;
+  remove_builder = λ name arch. refl;
   enter = λ arch source version priority section. refl;
   give_back = λ arch source version. refl;
   dep_wait = λ arch source version relations. refl;
@@ -44,4 +46,5 @@ returns c = record {
   rebuild = λ arch source version number message. refl;
   build_priority = priority;
   minus = λ arch source version less. refl;
+  forget = λ arch source version. refl;
 }

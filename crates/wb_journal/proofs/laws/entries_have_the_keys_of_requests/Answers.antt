@@ -14,6 +14,8 @@ returns c = record {
   attempted = λ take_number reason. refl;
   add_arch = λ name os cpu. refl;
   add_builder = λ name arch. refl;
+  remove_arch = λ name. refl;
+  remove_builder = λ name arch. refl;
   enter = λ arch source version priority section. refl;
   give_back = λ arch source version. refl;
   dep_wait = λ arch source version relations. refl;
@@ -21,4 +23,5 @@ returns c = record {
   not_for_us = λ arch source version note. refl;
   rebuild = λ arch source version number message. refl;
   build_priority = λ arch source version value. refl;
+  forget = λ arch source version. refl;
 }

@@ -80,6 +80,10 @@ pub returns-clause-waits_unmet : goal.returns-clause-waits_unmet
 unfolding listed_record new_record newer_record same_record relisted meets version_cmp parts_cmp revision_or_zero part_cmp weight_of parts_of has_epoch epoch_text rest_of has_revision upstream_text revision_text epoch_of value_of with_digit
 returns-clause-waits_unmet c = becomes-beside _ _ (λ available here. ap (after-waits (listed_at (codes "7.88.1-10")) waiting) (libssl-waits available _ here))
 
+pub returns-clause-waits_provided : goal.returns-clause-waits_provided
+unfolding listed_record new_record newer_record same_record relisted meets version_cmp parts_cmp revision_or_zero part_cmp weight_of parts_of has_epoch epoch_text rest_of has_revision upstream_text revision_text epoch_of value_of with_digit
+returns-clause-waits_provided c = becomes-beside _ _ (λ available here. ap (after-waits (listed_at (codes "7.88.1-10")) waiting) (libssl-waits available _ here))
+
 pub returns-clause-waits_met : goal.returns-clause-waits_met
 unfolding listed_record new_record newer_record same_record relisted meets version_cmp parts_cmp revision_or_zero part_cmp weight_of parts_of has_epoch epoch_text rest_of has_revision upstream_text revision_text epoch_of value_of with_digit
 returns-clause-waits_met c = becomes-beside _ _ (λ available here. ap (after-waits (listed_at (codes "7.88.1-10")) waiting) (libssl-waits available _ here))

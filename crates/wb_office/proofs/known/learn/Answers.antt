@@ -8,6 +8,7 @@ returns-in-AddArch c = record {
 
 pub returns-in_default : goal.returns-in_default
 returns-in_default c = record {
-  knows = λ machine knows after. knows_after c.args.command.now machine c.args.known.now c.args.counts c.forget_changed.new.summaries c.in_default.not-AddArch knows after
+  knows = λ machine knows after. knows_after c.args.command.now machine c.args.known.now c.args.counts
+      c.forget_changed.new.summaries c.in_default.not-AddArch c.in_default.not-RemoveArch knows after
       (c.forget_changed.ensures.stay machine knows.summaries);
 }

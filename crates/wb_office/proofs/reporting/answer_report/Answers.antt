@@ -1,10 +1,12 @@
 use Rattle.wb_office.specs.Answers.{AreOf}
-use Rattle.wb_office.proofs.ReportLemmas.{answers_given, report_refused}
+use Rattle.wb_states.specs.declared.command.Command.TheVariants as of
+use Rattle.wb_office.proofs.BatchLemmas.{answers_given, refused_here}
 use Rattle.wb_office.proofs.reporting.answer_report.Goals as goal
 
 pub returns-in-Err-clause-answers : goal.returns-in-Err-clause-answers
 returns-in-Err-clause-answers g c =
-    report_refused g.S.Store c.args.counts c.args.report.now c.args.store.now (AreOf c.args.counts c.args.archs.now) c.in-Err.refusal
+    refused_here g.S.Store (of.Report c.args.report.now) c.args.store.now (AreOf c.args.counts c.args.archs.now)
+    c.in-Err.refusal
     c.in-Err.ensures.refused c.in-Err.ensures.kind.0 c.in-Err.ensures.kind.1
 
 pub returns-in-Ok-clause-answers : goal.returns-in-Ok-clause-answers

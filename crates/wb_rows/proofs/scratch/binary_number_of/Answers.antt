@@ -6,6 +6,6 @@ pub returns-in_err-number-clause-refused : goal.returns-in_err-number-clause-ref
 returns-in_err-number-clause-refused c =
     passed _ c.from_residual.result c.from_residual.ensures.1 (λ is. no_binary_number c.args.row.now (c.in_err-number.ensures.refused is))
 
-pub returns-in_err-own-clause-refused : goal.returns-in_err-own-clause-refused
-returns-in_err-own-clause-refused c =
-    passed _ c.from_residual-in_err-own.result c.from_residual-in_err-own.ensures.1 (λ is. no_binary_own c.args.row.now (c.in_err-own.ensures.refused is))
+pub returns-in_err-kind-clause-refused : goal.returns-in_err-kind-clause-refused
+returns-in_err-kind-clause-refused c =
+    passed _ c.from_residual-in_err-kind.result c.from_residual-in_err-kind.ensures.1 (λ is. no_binary_own c.args.row.now (c.in_err-kind.ensures.refused is))

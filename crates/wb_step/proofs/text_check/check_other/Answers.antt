@@ -1,12 +1,16 @@
 use Rattle.std.specs.Option.{option_or}
-use Rattle.std.proofs.Common.{◌∙◌, ap, sym, inl, inr, [], ◌∷◌, None, refl, SFits, rules}
+use Rattle.std.proofs.Common.{◌∙◌, ap, sym, inl, inr, [], ◌∷◌, None, not, refl, SFits, rules}
 use Rattle.std.proofs.lemmas.Int.{to_z-of_z}
 use mir.Syntax.{w64}
 use Rattle.deb_text.specs.Options.{first_some}
 use Rattle.wb_states.specs.declared.refusal.Refusal.TheVariants.{BadName, BadNumber, RepeatedArch, TextTooLong}
+use Rattle.wb_states.specs.Names.{is_arch_name}
 use Rattle.wb_step.specs.Checks.{is_bad_priority, key_refusal, version_refusal, when, has_bad_part, has_repeated_arch}
 use Rattle.wb_step.proofs.KeyLemmas.{aside-Fail, aside-NotForUs}
-use Rattle.wb_step.proofs.TextCheckLemmas.{tells_nothing, text-AddArch, text-AddBuilder, text-aside, text-Attempted, text-BuildPriority, text-Built, text-Enter, text-GiveBack, text-Merge, text-Next, text-PutBack, text-Rebuild, text-Take, text-Uploaded, told_as}
+use Rattle.wb_step.proofs.TextCheckLemmas.{tells_nothing, text-AddArch, text-AddBuilder, text-aside, text-Attempted}
+use Rattle.wb_step.proofs.TextCheckLemmas.{text-BuildPriority, text-Built, text-Enter, text-Forget, text-GiveBack}
+use Rattle.wb_step.proofs.TextCheckLemmas.{text-Merge, text-Next, text-PutBack, text-Rebuild, text-RemoveArch}
+use Rattle.wb_step.proofs.TextCheckLemmas.{text-RemoveBuilder, text-Take, text-Uploaded, told_as}
 use Rattle.wb_step.proofs.text_check.check_other.Goals as goal
 
 pub returns-in-AddArch-clause-checks : goal.returns-in-AddArch-clause-checks
@@ -17,6 +21,22 @@ pub returns-in-AddBuilder-clause-checks : goal.returns-in-AddBuilder-clause-chec
 returns-in-AddBuilder-clause-checks c =
     told_as _ c.in-AddBuilder.is (c.unless-in-AddBuilder.ensures.tells None tells_nothing)
     (ap (λ b. when b BadName) c.has_bad_builder-is_bad.ensures.value ∙ text-AddBuilder c.in-AddBuilder.adds) refl
+
+pub returns-in-RemoveArch-clause-checks : goal.returns-in-RemoveArch-clause-checks
+returns-in-RemoveArch-clause-checks c =
+    told_as _ c.in-RemoveArch.is (c.unless-in-RemoveArch.ensures.tells None tells_nothing)
+    (ap (λ b. when (not b) BadName) (c.is_arch-is_bad.ensures.value ∙ ap is_arch_name c.as_str.ensures)
+    ∙ text-RemoveArch c.in-RemoveArch.removes) refl
+
+pub returns-in-RemoveBuilder-clause-checks : goal.returns-in-RemoveBuilder-clause-checks
+returns-in-RemoveBuilder-clause-checks c =
+    told_as _ c.in-RemoveBuilder.is (c.unless-in-RemoveBuilder.ensures.tells None tells_nothing)
+    (ap (λ b. when b BadName) c.has_bad_builder-is_bad-in-RemoveBuilder.ensures.value
+    ∙ text-RemoveBuilder c.in-RemoveBuilder.removes) refl
+
+pub returns-in-Forget-clause-checks : goal.returns-in-Forget-clause-checks
+returns-in-Forget-clause-checks c = told_as _ c.in-Forget.is c.check_key-in-Forget.ensures.tells
+    (text-Forget c.in-Forget.forget) refl
 
 pub returns-in-Enter-clause-checks : goal.returns-in-Enter-clause-checks
 returns-in-Enter-clause-checks c =

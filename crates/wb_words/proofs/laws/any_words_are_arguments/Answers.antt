@@ -11,6 +11,8 @@ unfolding words_on_literals clap_on_literals
 returns c = record {
   add_arch = λ name os cpu. refl;
   add_builder = λ name arch. refl;
+  remove_arch = λ name. refl;
+  remove_builder = λ name arch. refl;
   enter = λ arch source version priority section. refl;
   give_back = λ arch source version. refl;
   dep_wait = λ arch source version first second. refl;
@@ -20,6 +22,7 @@ returns c = record {
       operator-invocation (λ n. Rebuild arch source version n (joined (first ∷ second ∷ []))) (number_in number);
   build_priority = λ arch source version value.
       operator-invocation (λ n. BuildPriority arch source version n) (integer_in value);
+  forget = λ arch source version. refl;
   next = λ arch builder. refl;
   after = λ arch builder after. next-invocation arch builder (number_in after);
   take = λ arch builder source version. refl;

@@ -9,6 +9,8 @@ unfolding words_on_literals clap_on_literals number_in integer_in
 returns c = record {
   add_arch = refl;
   add_builder = refl;
+  remove_arch = refl;
+  remove_builder = refl;
   enter = refl;
   give_back = refl;
   dep_wait = refl;
@@ -16,4 +18,5 @@ returns c = record {
   not_for_us = refl;
   rebuild = refl;
   build_priority = refl;
+  forget = refl;
 }

@@ -13,3 +13,10 @@ returns-in-Head g c =
           is.whole sound ∙ held_again-some machine next.builder next.after (sym c.is_some.ensures ∙ c.if-is_some.true)
           ∙ ap (others_named machine) (sym c.in-Head.is));
     }
+
+pub returns-in-Held : goal.returns-in-Held
+returns-in-Held g c = record {
+  finds = finds_weaker c.held_by-in-Held.result (finds_looked_up c.held_by-in-Held.result
+      c.held_by-in-Held.ensures.looks_up)
+      (λ machine rows sound is. is.whole sound ∙ ap (others_named machine) (sym c.in-Held.is));
+}

@@ -1,0 +1,11 @@
+use Rattle.std.proofs.Common.{refl, ap₂, ◌∷◌}
+use Rattle.wb_store.proofs.ChangeLemmas.{builder_removal_change, text_bound}
+use Rattle.wb_store.proofs.writing.Writing.remove_builder.Goals as goal
+
+pub returns-clause-changes : goal.returns-clause-changes
+returns-clause-changes g c = rw (← c.store.view_is) (let params = ap₂ ◌∷◌
+    (text_bound _ _ _ c.params-to_sql.ensures c.as_str.ensures) (ap₂ ◌∷◌
+    (text_bound _ _ _ c.params-to_sql-2.ensures c.as_str-2.ensures) refl) in
+    builder_removal_change c.args.builder.now c.args.arch.now c.remove_builder.ensures params
+    c.delete-answered.ensures.runs
+    c.delete-answered.ensures.ok c.answer_on.ensures.value)
