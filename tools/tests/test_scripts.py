@@ -1,7 +1,7 @@
 #!/usr/bin/env python3
 """Tests that all scripts of the repository can be read: those in Python by its own compiler and pyflakes, those of a
-shell by that shell and shellcheck, of which one that is not installed is left out by name; and that no line is too
-wide.
+shell by that shell and shellcheck, and the one in Perl by that, of which one that is not installed is left out by name;
+and that no line is too wide.
 
     tools/tests/test_scripts.py [NAME..]     these tests, or all
 """
@@ -21,6 +21,7 @@ from harness import BIN, ROOT, Failure, LeftOut, expect, expect_none, main
 PASSED_OVER = "SC2317,SC2016"
 # The columns that a line may have: of code, and of proofs, pages and scripts.
 CODE, TEXT = 100, 120
+LANGUAGES = ("python3", "bash", "/bin/sh", "perl")  # as first lines of scripts have them
 # What is stored and compared byte for byte, and lists of a line each, have lines as wide as they need.
 STORED = ("examples/*/*", "crates/*/data/*", "crates/*/std*", "crates/*/args", "*.edit", "*.tsv", "*.sql", "*.png")
 STORED += ("*.gz", "COPYING", "HANDLES", "crates.txt", "memory_exceptions")
@@ -46,7 +47,7 @@ def scripts():
             continue
         first = (ROOT / path).read_bytes()[:80].split(b"\n")[0].decode(errors="replace")
         if first.startswith("#!") and not first.startswith("#!["):
-            kinds = (kind for kind in ("python3", "bash", "/bin/sh") if kind in first)
+            kinds = (kind for kind in LANGUAGES if kind in first)
             found[next(kinds, "unknown")].append(str(path))
         elif path.suffix in (".py", ".bash-completion"):
             found["python3" if path.suffix == ".py" else "bash"].append(str(path))
@@ -73,7 +74,7 @@ def judged_by(program, kind, *words):
 
 def are_of_known_languages():
     expect_none(scripts()["unknown"])
-    expect(all(scripts()[kind] for kind in ("python3", "bash", "/bin/sh")), "there are no scripts of some language")
+    expect(all(scripts()[kind] for kind in LANGUAGES), "there are no scripts of some language")
 
 
 def in_python_compile():
@@ -94,6 +95,14 @@ def in_bash_are_read():
 
 def in_sh_are_read():
     expect_none(line for script in scripts()["/bin/sh"] for line in amiss_by("sh", "-n", "--", script))
+
+
+def in_perl_are_read():
+    """By Perl, with the library of dpkg that it loads."""
+    if not shutil.which("perl") or amiss_by("perl", "-MDpkg::Deps", "-e", ""):
+        raise LeftOut("the library Dpkg::Deps, of libdpkg-perl, is not installed")
+    for script in scripts()["perl"]:
+        expect_none(set(amiss_by("perl", "-wc", script)) - {f"{script} syntax OK"})
 
 
 def in_bash_pass_shellcheck():
@@ -162,7 +171,7 @@ def commands_outlive_their_readers(folder):
 
 TESTS = [
     are_of_known_languages, in_python_compile, in_python_pass_pyflakes, in_bash_are_read, in_sh_are_read,
-    are_executable,
+    in_perl_are_read, are_executable,
     commands_outlive_their_readers, in_bash_pass_shellcheck, in_sh_pass_shellcheck, have_no_line_too_wide,
 ]
 
