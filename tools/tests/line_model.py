@@ -119,7 +119,7 @@ def provided(text):
     given = []
     for group in text.split(","):
         alternatives = [ALTERNATIVE.match(one.strip()) for one in group.split("|")] if group.strip() else []
-        if not all(alternatives):
+        if not all(one and (one[4] is None or is_version(one[4])) for one in alternatives):
             return []
         if len(alternatives) == 1:
             name, _, operator, version, words, profiles = alternatives[0].groups()
