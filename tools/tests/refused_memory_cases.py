@@ -502,6 +502,16 @@ TEXTS = {
         packages=MANY
         + "".join(f"Package: libx-dev\nVersion: {version}\nArchitecture: amd64\n\n" for version in ("1.0", "2.0")),
     ),
+    "end-of-a-wait-by-a-provided-name": merging(
+        "merge sources amd64=packages",
+        WAITING,
+        merged(5, ("amd64", 0, 1, 0, 0)),
+        merged(6, ("amd64", 0, 0, 1, 0)),
+        "item amd64 bash",
+        (as_json(**WAITS), as_json(**TO_BUILD)),
+        sources=FOLDED,
+        packages="Package: libx3\nVersion: 3\nArchitecture: all\nProvides: liby-dev, libx-dev (= 1), libx-dev (= 3)\n",
+    ),
     "not-listed-any-more": merging(
         "merge sources amd64=packages",
         BASE + ENTERED + ["enter amd64 gone 1 extra libs"],
