@@ -422,7 +422,8 @@ def lists(folder):
 
 
 def is_shown_by_the_operators_commands(folder):
-    """Lines, single commands, merges and reports by requests, and merge-archive's report of what waits now."""
+    """Lines, single commands, merges, reports and a removal by requests, and merge-archive's report of what waits
+    now."""
     with Operated(folder) as office:
         (folder / "report").write_text("hello 1.0 uninstallable libx is missing\n")
         for words, options in (
@@ -430,6 +431,7 @@ def is_shown_by_the_operators_commands(folder):
             (("enter", "amd64", "late", "1.0", "optional", "devel"), {}), (("report", "amd64", folder / "report"), {}),
             (("run",), {"stdin": office.lines(["summary amd64", "build-priority amd64 hello 1.0 5"])}),
             (("merge", "--report", f"amd64={folder}/report", *lists(folder)), {}),
+            (("remove-arch", "arm64", "--yes"), {}),
         ):
             keeper = office.keeper()
             _, noted = office.asks(*words, **options)
@@ -476,6 +478,7 @@ def that_lacks_a_right_stops_the_operators_commands(folder):
             office.show(office.files[name])
             for words, options in (
                 (("add-builder", "b9", "amd64"), {}), (("merge", *lists(folder)), {}),
+                (("remove-arch", "amd64", "--yes"), {}),
                 (("run",), {"stdin": office.lines(["add-builder b9 amd64", "next amd64 b1"])}),
             ):
                 _, noted = office.asks(*words, wanted=1, **options)

@@ -1,14 +1,18 @@
 #!/usr/bin/env python3
 """Tests of the lines and the merges that tools/bin/office gives an office: by requests while it is served, and else by
-a run over its file. Both have to give the same bytes and the same status, and requests stop nothing.
+a run over its file. Both have to give the same bytes and the same status, and requests stop nothing. So too the removal
+of an architecture, with what it refuses, and what it asks at a terminal.
 
     tools/tests/test_office_lines.py [NAME..]     these tests, or all
 
 From the environment: WB is the program, crates/wb/out/wb of this repository where it is not set.
 """
+import contextlib
 import json
 import os
+import pty
 import random
+import select
 import signal
 import subprocess
 import sys
@@ -17,7 +21,8 @@ from pathlib import Path
 
 from harness import SEED, WAIT, call, expect, main, program
 from package_runs import OFFICE, Trial, wait_until
-from wanna_build_runs import Gate
+from wanna_build_runs import Gate, ask
+from wb_tools.office.lines import request_of
 
 LONG = "x" * 9000
 NAMES = ("hello", "new", "tar")  # in the Sources list of the merges
@@ -395,11 +400,147 @@ def goes_on_while_the_program_starts_anew(folder):
         expect(said.count("UnknownSource") == 30, said)
 
 
+# ---- the removal of an architecture
+
+GOING = [
+    "add-arch arm64 linux arm64", "add-builder b1 arm64", "add-builder b2 arm64",
+    "enter arm64 hello 1.0 optional devel", "enter arm64 tar 1.30 required admin", "fail arm64 tar 1.30 broken",
+]  # fmt: skip
+SHOWN = (
+    "arm64 has 2 records: 1 Needs-Build, 1 Failed\n", "arm64 has 2 pairs with a builder: b1, b2\n",
+    "would name the copy ", "would ask: remove arm64, 2 records and 2 pairs with a builder?\n",
+)  # fmt: skip
+
+
+def has_arch(office, arch="arm64"):
+    said, _ = office.do("run", stdin=office.lines(["archs"]))
+    return f'"arch":"{arch}"' in said
+
+
+def removes_an_architecture(folder):
+    """Whether the office is served, which stops nothing, or not: what goes is shown, and after a backup it is gone,
+    without a question. A dry run shows it, and changes nothing."""
+    idle, served = offices(folder)
+    with idle, served:
+        process = served.server()
+        for office, last in (idle, "give the office: remove-arch arm64"), (served, "send 1 lines"):
+            office.do("run", stdin=office.lines(GOING))
+            before = office.tree()
+            said, steps = office.do("remove-arch", "arm64", "--dry-run")
+            expect(not said and office.tree() == before, f"a dry run changes files, or says {said}")
+            expect(all(text in steps for text in (*SHOWN, f"would {last}")), f"a dry run says {steps}")
+            said, steps = office.do("remove-arch", "arm64", "--yes")
+            backup, answer = said.splitlines()
+            expect(json.loads(answer) == {"accepted": 11, "ok": "remove-arch"}, answer)
+            expect(office.saved() == [Path(backup)], f"there are {office.saved()}")
+            expect("removed arm64, 2 records and 2 pairs with a builder\n" in steps and "[y/N]" not in steps, steps)
+            expect("stop the service" not in steps, steps)
+            said, _ = office.do("run", stdin=office.lines(["summary arm64", "mine b2", "archs", "builders"]), wanted=1)
+            left = [json.loads(line) for line in said.splitlines()]
+            expect([one.get("refused") for one in left[:2]] == ["UnknownArch", "UnknownBuilder"], said)
+            expect(len(left[2]["archs"]) == len(left[3]["builders"]) == 1 and office.has("tar"), said)
+        expect(served.server() == process, "another process serves")
+        idle.do("restore", "--force", idle.saved()[0])
+        expect(has_arch(idle), "the backup lacks the architecture")
+
+
+def removes_nothing_that_is_refused(folder):
+    """An architecture that is not there or of which a record is held, and a call without a terminal: no backup is made,
+    no file is changed, and of many records that are held some are named."""
+    held = [f"enter arm64 p{at:02} 1.0 a b" for at in range(12)] + ["next arm64 b1"] * 7 + ["next arm64 b2"] * 5
+    idle, served = offices(folder)
+    with idle, served:
+        for office in (idle, served):
+            office.do("run", stdin=office.lines(GOING))
+            expect_refused(office, 2, "there is no terminal to ask at; nothing was done: --yes", "arm64")
+            for wanted, message, *words in (
+                (1, "the office has no architecture armel (UnknownArch); nothing was done", "armel"),
+                (1, 'summary Arm64: the office answers {"code":11,"refused":"BadName"}; nothing was done', "Arm64"),
+                (2, "is no word of a line, which has no blanks", "arm 64"), (2, "required: NAME"),
+            ):
+                expect_refused(office, wanted, message, "--yes", *words)
+            office.do("run", stdin=office.lines(["give-back arm64 tar 1.30", "next arm64 b2", "built 1"]))
+            message = "one record that a builder holds (StillHeld): tar 1.30 (Built by b2); nothing was done: "
+            expect_refused(office, 1, f"arm64 has 2 records: 1 Needs-Build, 1 Built\n|{message}", "--yes", "arm64")
+            expect_refused(office, 1, message, "--dry-run", "arm64")
+            office.do("run", stdin=office.lines(["give-back arm64 tar 1.30", "take arm64 b1 hello 1.0", *held]))
+            many = "arm64 has 13 records that a builder holds (StillHeld): hello 1.0 (Building by b1), |, and 3 more; "
+            expect_refused(office, 1, many, "--yes", "arm64")
+
+
+def expect_refused(office, wanted, messages, *words):
+    """That a removal ends with this status and has these messages, parted by bars, and that nothing was done."""
+    before = office.tree()
+    said, steps = office.do("remove-arch", *words, wanted=wanted)
+    expect(not said and all(message in steps for message in messages.split("|")), f"{words}: {said}{steps}")
+    expect(office.tree() == before and not office.saved(), f"{words}: it changes files")
+
+
+def asks_at_a_terminal(folder):
+    """Only yes removes; the backup stays. What the office refuses by then is refused, and an answer that is lost is
+    said to be in doubt."""
+    with Trial(folder) as office:
+        office.fill()
+        office.do("start")
+        office.do("run", stdin=office.lines(GOING))
+        for answer in (b"n\n", b"\n", b"yesno\n", b"\xff\n", b"\x04"):
+            said, shown = at_a_terminal(office, answer, 1)
+            expect(f"arm64 was not removed; the backup {said[-1]} stays\n" in shown, f"{answer}: {said}{shown}")
+            expect(office.saved()[-1] == Path(said[-1]) and has_arch(office), f"{answer}: {office.saved()}")
+        said, shown = at_a_terminal(office, b"y\n", 1, lambda: take_one(office, "take arm64 b2 hello 1.0"))
+        expect(json.loads(said[-1])["refused"] == "StillHeld" and has_arch(office), f"{said}{shown}")
+        take_one(office, "give-back arm64 hello 1.0")
+        said, shown = at_a_terminal(office, b" YES \n", 0, lambda: take_one(office, "enter arm64 late 1.0 a b"))
+        counted = "removed arm64, 2 records and 2 pairs with a builder, as counted before one command of others\n"
+        expect(json.loads(said[-1])["ok"] == "remove-arch" and counted in shown, f"{said}{shown}")
+        office.do("run", stdin=office.lines(GOING))
+        gate = Gate(office)
+        try:
+            office.settings["PORT"] = gate.port
+            office.write_settings()
+            _, shown = at_a_terminal(office, b"y\n", 3, lambda: gate.lose.append(("/v1/remove-arch", "answer")))
+            expect("line 1 (remove-arch arm64) is in doubt" in shown and not has_arch(office), shown)
+        finally:
+            gate.close()
+            office.settings["PORT"] = office.port
+            office.write_settings()
+
+
+def take_one(office, line):
+    """Sends the office a line as another client, while a call of the operator's command is under way."""
+    path, body = request_of(line.split())
+    said = ask(office.port, "POST", path, json.loads(body))
+    expect("ok" in said, f"{line}: {said}")
+
+
+def at_a_terminal(office, answer, wanted, meanwhile=lambda: None):
+    """The lines of standard output of a removal of arm64, and what it shows at a terminal, where its question is
+    answered so."""
+    ours, theirs = pty.openpty()
+    words, met = [OFFICE, "--settings", office.conf, "remove-arch", "arm64"], b""
+    with (
+        open(ours, "rb+", buffering=0) as shown,
+        subprocess.Popen(words, stdin=theirs, stdout=subprocess.PIPE, stderr=theirs) as process,
+    ):
+        os.close(theirs)
+        with contextlib.suppress(OSError):  # the end of the terminal
+            while select.select([shown], [], [], WAIT)[0]:
+                met += shown.read(65536)
+                if answer and b"[y/N] " in met:
+                    meanwhile()
+                    shown.write(answer)
+                    answer = b""
+        said = process.stdout.read().decode().splitlines()
+        text = met.decode(errors="replace").replace("\r\n", "\n")
+        expect(process.wait(timeout=WAIT) == wanted and not answer, f"status {process.returncode}: {said}{text}")
+    return said, text
+
+
 TESTS = [
     answers_alike, answers_random_lines_alike, commands_answer_alike, stops_nothing, stops_for_what_has_no_request,
     merges_without_a_stop, says_what_is_wrong_with_its_folder, says_that_a_merge_is_in_doubt,
     says_which_line_is_in_doubt, ends_where_the_office_is_stopped, says_where_a_signal_ended_it,
-    goes_on_while_the_program_starts_anew,
+    goes_on_while_the_program_starts_anew, removes_an_architecture, removes_nothing_that_is_refused, asks_at_a_terminal,
 ]  # fmt: skip
 
 if __name__ == "__main__":

@@ -1,8 +1,8 @@
 """Starts, stops, backs up, restores and merges an office: the one command of its operator.
 
 Each step is said on standard error before it is taken; answers of the office, the lines of `status` and the names of
-backups come on standard output. But for `prune`, nothing is ever removed but copies that were found bad and what this
-command made for a trial.
+backups come on standard output. But for `prune` and `remove-arch`, nothing is ever removed but copies that were found
+bad and what this command made for a trial.
 """
 from __future__ import annotations
 
@@ -21,6 +21,7 @@ from wb_tools import outlive_readers
 from wb_tools.office.lines import COMMANDS as OFFICE_COMMANDS
 from wb_tools.office.merges import read_merges, read_reports
 from wb_tools.office.prune import prune
+from wb_tools.office.removing import remove_arch
 from wb_tools.office.settings import FAILED, Owner, Refusal, Settings, read_settings, tell
 from wb_tools.office.steps import Office
 from wb_tools.suites import default_settings, settings_of_suite
@@ -34,6 +35,7 @@ examples:
   %(prog)s merge Sources-amd64 amd64=Packages-amd64 Sources-armhf armhf=Packages-armhf
   %(prog)s add-builder b1 amd64
   %(prog)s report amd64 report-0412
+  %(prog)s --dry-run remove-arch armhf
   %(prog)s key add b1 build=b1 > b1.key
   %(prog)s run < lines
   %(prog)s restore --force /var/lib/wb/backups/2026-04-12T031500Z
@@ -66,7 +68,7 @@ exit statuses:
   1  a step failed or was refused, or the office refused a line; the message says which
   2  the words or the settings are wrong; nothing was done
   3  the service does not run; of merge, run and backup: it ran before and could not be started again; of merge, run,
-     report, enter and add-..: an answer was lost, and the message names the line that is in doubt
+     report, enter, add-.. and remove-arch: an answer was lost, and the message names the line that is in doubt
 """
 
 
@@ -124,6 +126,15 @@ def add_merge(below: Any) -> None:
     )
 
 
+def add_remove_arch(below: Any) -> None:
+    """The command `remove-arch` and its option."""
+    remove = below.add_parser(
+        "remove-arch", help="back up, ask, and remove an architecture with its records, without a stop"
+    )
+    remove.add_argument("--yes", action="store_true", help="do not ask, as without a terminal")
+    remove.add_argument("name", metavar="NAME")
+
+
 def add_key(below: Any) -> None:
     """The command `key` and what is done with keys."""
     key = below.add_parser("key", help="add, change, remove or list the keys by which the office lets requests through")
@@ -175,6 +186,7 @@ def parser() -> argparse.ArgumentParser:
         command = below.add_parser(name, help=about)
         for word in OFFICE_COMMANDS[name].split():
             command.add_argument(word, metavar=word.upper())
+    add_remove_arch(below)
     add_key(below)
     below.add_parser("run", help="give the office the lines of standard input, without a stop if each has a request")
     below.add_parser("ready", help="end with 0 if there is an office that may be served; what the unit asks first")
@@ -213,6 +225,8 @@ def act(office: Office, settings: Settings, words: argparse.Namespace) -> int:
             office.merge(merges, reports, words.most_removed, words.looks, words.stop)
         case name if name in COMMANDS:
             office.command([name, *(getattr(words, word) for word in OFFICE_COMMANDS[name].split())])
+        case "remove-arch":
+            remove_arch(office, words.name, words.yes)
         case "run":
             office.run(sys.stdin.buffer.read())
     return office.status
