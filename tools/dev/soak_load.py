@@ -1,5 +1,5 @@
-"""The load of tools/dev/soak: builders, a porter, and clients that mean no good, each in a thread of its own, and what
-they were answered."""
+"""The load of tools/dev/soak: builders, a porter, an operator, and clients that mean no good, each in a thread of its
+own, and what they were answered."""
 import contextlib
 import http.client
 import json
@@ -14,7 +14,7 @@ from collections import Counter
 from dataclasses import dataclass, field
 from typing import Any
 
-from office_model import ARCHS
+from office_model import ARCHS, BUILDERS
 from soak_audit import MET, Sent, Soaked
 
 WAIT = 60  # seconds for one answer
@@ -22,6 +22,8 @@ FREE = ("Memory", "Closed", "Store")  # the refusals that may come in place of a
 REPORTS = ["built", "built", "uploaded", "uploaded", "uploaded", "attempted", "waits", "put-back"]
 WORDS = {"queue": "queue", "state": "state", "item": "item", "mine": "mine", "depends": "depends", "summary": "summary"}
 WHOLE = ("office", "archs", "builders")  # the queries without a key
+THIRD = "armhf"  # the architecture that comes and goes
+KEPT = [f"p{at}" for at in range(10)]  # the packages of which no record is forgotten
 WORDS |= {name: name for name in WHOLE}
 
 
@@ -83,9 +85,9 @@ class Client:
     def __init__(self, board: Board, chance: random.Random) -> None:
         self.board, self.chance = board, chance
 
-    def command(self, name: str, **body: Any) -> Sent:
-        one = self.board.begin(name, body)
-        self.board.finish(one, *self.ask("POST", f"/v1/{name}", json.dumps(body).encode()))
+    def command(self, path: str, /, **body: Any) -> Sent:
+        one = self.board.begin(path, body)
+        self.board.finish(one, *self.ask("POST", f"/v1/{path}", json.dumps(body).encode()))
         return one
 
     def query(self, name: str, *parts: str) -> Sent:
@@ -167,7 +169,7 @@ class Builder(Client):
 
 class Porter(Client):
     """A person who moves packages, sends reports and looks at what is there. Versions change in merges alone, between
-    two lives of the program."""
+    two lives of the program: what the operator enters again has the one that it had."""
 
     def __init__(self, board: Board, chance: random.Random, office: Soaked) -> None:
         super().__init__(board, chance)
@@ -214,6 +216,44 @@ class Porter(Client):
             name, []
         )
         self.query(name, *([] if name in WHOLE else [named["arch"], *words]))
+
+
+class Operator(Client):
+    """A person who adds and removes, of three kinds: an architecture that has a builder and packages of its own, pairs
+    of the builders that are at work, and records of what these build. Merges bring the records back too."""
+
+    def __init__(self, board: Board, chance: random.Random, office: Soaked) -> None:
+        super().__init__(board, chance)
+        self.versions = {key: one.version for key, one in office.records.items() if key[1] not in KEPT}
+
+    def work(self) -> None:
+        while self.goes_on():
+            self.chance.choice([self.change_arch, self.change_arch, self.change_pair, self.change_record])()
+            time.sleep(self.chance.choice((0, 0.005, 0.02)))
+
+    def change_arch(self) -> None:
+        """Adds or removes the architecture, its builder or a package of it, or gives one out or back."""
+        pair, name = {"name": "b4", "arch": THIRD}, f"q{self.chance.randrange(5)}"
+        named = {"arch": THIRD, "source": name, "version": "1.0-1"}
+        requests: list[tuple[int, str, dict[str, str]]] = [
+            (2, "add-arch", {"name": THIRD, "os": "linux", "cpu": "arm"}), (2, "add-builder", pair),
+            (4, "enter", {**named, "priority": "optional", "section": "devel"}), (3, "give-back", named),
+            (2, "next", {"arch": THIRD, "builder": "b4"}), (2, "forget", named), (1, "remove-builder", pair),
+            (2, "remove-arch", {"name": THIRD}),
+        ]
+        [(_, command, body)] = self.chance.choices(requests, [weight for weight, _, _ in requests])
+        self.command(command, **body)
+
+    def change_pair(self) -> None:
+        name, arch = self.chance.choice([(name, arch) for name, archs in BUILDERS.items() for arch in sorted(archs)])
+        self.command(self.chance.choice(("remove-builder", "add-builder", "add-builder")), name=name, arch=arch)
+
+    def change_record(self) -> None:
+        if self.versions:
+            (arch, source), version = self.chance.choice(list(self.versions.items()))
+            labels = {"priority": "extra", "section": "misc"}
+            command, more = self.chance.choice([("forget", {}), ("enter", labels), ("enter", labels)])
+            self.command(command, arch=arch, source=source, version=version, **more)
 
 
 # ---- clients that mean no good
@@ -369,6 +409,7 @@ def begin(board: Board, office: Soaked, builders: list[Builder], chance: random.
     works = [lambda one=one: one.work(board) for one in builders]
     works += [
         Porter(board, random.Random(chance.random()), office).work,
+        Operator(board, random.Random(chance.random()), office).work,
         Nuisance(board, random.Random(chance.random()), office).work,
     ]
     threads = [threading.Thread(target=reported, args=(work, board), daemon=True) for work in works]
@@ -390,7 +431,8 @@ def first_queries(client: Client, office: Soaked) -> None:
     for arch in ARCHS:
         client.query("summary", arch)
         client.query("queue", arch)
-    for builder in ("b1", "b2", "b3"):
+    client.query("summary", THIRD)
+    for builder in (*BUILDERS, "b4"):
         client.query("mine", builder)
     for name in ("office", "archs", "builders"):
         client.query(name)

@@ -17,19 +17,20 @@ from collections import Counter
 from pathlib import Path
 
 from harness import ROOT, free_port, listens
-from soak_audit import Rows, Sent, Soaked, audit, next_lists
+from soak_audit import Rows, Sent, Soaked, audit, next_lists, removals
 from soak_load import Board, Builder, Client, begin, first_queries
 
 DESCRIPTION = """Tries the serving program before a release, and is no part of ./check. The program serves an office of
-two architectures on a port of 127.0.0.1. Three builders, a porter and hostile clients ask it, each in a thread: the
-latter dribble, hold, reset and break off connections, send heads and bodies at their limits, garbage, and forms of web
-pages. After some seconds it is ended: by SIGKILL, by SIGTERM, or since its files may not grow, or with a limit of
-memory, under which it has served. Between two lives lists are merged, and some merges are killed.
+two architectures on a port of 127.0.0.1. Three builders, a porter, an operator and hostile clients ask it, each in a
+thread: the operator adds and removes records, builders and a third architecture; the last dribble, hold, reset and
+break off connections, send heads and bodies at their limits, garbage, and forms of web pages. After some seconds it is
+ended: by SIGKILL, by SIGTERM, or since its files may not grow, or with a limit of memory, under which it has served.
+Between two lives lists are merged, and some merges are killed.
 
 After each life and each merge a copy of the file is audited by sqlite3 and by a model of the office in Python: all
 commands that were answered have to stand, in the order of their counts, with the answers that the model gives, no take
-number is given twice, nothing is held by two builders, and the rows are those of the model; of the commands without an
-answer those stand that the counts and the rows show."""
+number is given twice, nothing is held by two builders, no record is gone that no command removed, and the rows are
+those of the model; of the commands without an answer those stand that the counts and the rows show."""
 EPILOG = """example:
   tools/dev/soak                            an hour of crates/wb/out/wb
   tools/dev/soak --minutes 5 --seed 7       five minutes, with other choices
@@ -212,6 +213,7 @@ class Soak:
         self.counts["commands that were accepted"] += sum(one.accepted is not None for one in sent)
         self.counts["commands without an answer that stand"] += found.stood
         self.counts["hand-outs"] += max(0, found.office.handed - handed)
+        self.counts += Counter({f"{name}, {said}": count for (name, said), count in removals(sent).items()})
         self.counts["audits"] += 1
         if found.faults:
             lines = [json.dumps(vars(one), ensure_ascii=False) for one in sent]

@@ -13,8 +13,9 @@ import shutil
 import sys
 
 from harness import SEED, expect, main, program
+from office_model import REMOVED
 from store_runs import edit
-from soak_audit import audit
+from soak_audit import Sent, audit, losses
 from soak_trial import Soak
 
 SECONDS = (2, 6, 20)  # how long the program lives: longer only where the machine is so busy that little was done
@@ -26,6 +27,8 @@ CHANGES = {
     "UPDATE office SET accepted = accepted + 100": "no command without an answer",
     "UPDATE office SET handed = handed + 1": "and the model",
     "DELETE FROM source_record WHERE source = 'p1'": "the file has None",
+    "INSERT INTO builder VALUES ('b9', 'amd64')": "('b9', 'amd64')",
+    "INSERT INTO arch VALUES ('s390x', 'linux', 's390x')": "('s390x', 'linux', 's390x')",
     "UPDATE source_record SET note = 'x' WHERE source = 'p2'": "'p2'): the file has",
     "UPDATE source_record SET holder = 'b3' "
     "WHERE source = (SELECT min(source) FROM source_record WHERE holder = 'b1')": "the file has",
@@ -98,6 +101,10 @@ def finds_what_was_answered_wrongly(folder):
             summary, {**summary.said, "counts": {**summary.said["counts"], "Failed": 10**6}}, "at no count",
         ),
     }
+    removed = [one for one in accepted if one.name in REMOVED]
+    if removed:
+        held = {"code": 23, "refused": "StillHeld"}
+        wrong["a removal that stands and was refused"] = (removed[0], held, "")  # another may take its count
     if refused:
         wrong["a refusal without a reason"] = (refused[0], {"code": 1, "refused": "UnknownArch"}, "at no count")
     for name, (one, said, wanted) in wrong.items():
@@ -106,6 +113,28 @@ def finds_what_was_answered_wrongly(folder):
         faults = audit(before, [other if each is one else each for each in sent], folder).faults
         expect(any(wanted in fault for fault in faults), f"{name}: {faults[:3]}")
     return f"{len(wrong)} answers"
+
+
+def finds_records_that_are_gone(folder):
+    """Of the records that an office had each has to be there still, or a command has to have removed it."""
+    before, sent, folder = lived(folder)
+    commands = [one for one in sent if one.accepted is not None]
+    keys = set(before.records)
+    gone = min(keys)
+    removes = dict(zip(("arch", "source"), gone))
+    cases = [
+        ([], keys, []), (commands, keys, []), ([], keys - {gone}, [f"{gone} is gone, and no command removed it"]),
+        ([Sent("forget", removes, 0)], keys - {gone}, []),
+        ([Sent("remove-arch", {"name": "amd64"}, 0)], {key for key in keys if key[0] != "amd64"}, []),
+        ([Sent("merge", {"parts": [{"arch": "amd64"}]}, 0)], keys - {gone}, []),
+        ([Sent("forget", {**removes, "arch": "arm64"}, 0)], keys - {gone}, [f"{gone} is gone, and no command"]),
+        ([Sent("next", {}, 0, 200, {"take": before.handed + at}) for at in (1, 2, 2, 3)], keys, ["take 2 came twice"]),
+        ([Sent("next", {}, 0, 200, {"take": before.handed})], keys, [f"take {before.handed} came twice"]),
+    ]
+    for given, after, wanted in cases:
+        met = losses(keys, before.handed, given, after)
+        expect(len(met) == len(wanted) and all(map(str.startswith, met, wanted)), f"{met} in place of {wanted}")
+    return f"{len(cases)} cases"
 
 
 def holds_answers_that_broke_off_to_their_status(folder):
@@ -125,7 +154,10 @@ def holds_answers_that_broke_off_to_their_status(folder):
     return "4 answers"
 
 
-TESTS = [finds_what_is_lost_in_the_file, finds_what_was_answered_wrongly, holds_answers_that_broke_off_to_their_status]
+TESTS = [
+    finds_what_is_lost_in_the_file, finds_what_was_answered_wrongly, finds_records_that_are_gone,
+    holds_answers_that_broke_off_to_their_status,
+]
 
 if __name__ == "__main__":
     sys.exit(main(TESTS))
