@@ -1,5 +1,5 @@
 """What clients ask an office at once, and whether their answers are those of one order of the commands, for
-tools/tests/test_many_clients.py.
+tools/tests/test_many_clients.py. Architectures, builders and records come and go meanwhile.
 
 An accepted command has its place by its count. The model of office_model.py carries them out in that order, and has to
 give the answer of each. A refusal, a repeated assignment and an answer to a query have to be the model's between two of
@@ -18,16 +18,19 @@ from line_model import LineOffice
 from office_model import MOVES, STATES
 from request_reading import read_answer
 from serve_runs import request_bytes
-from soak_audit import History, Sent, Wrong, asked, would_answer
+from soak_audit import History, Sent, Wrong, asked, losses, removals, would_answer
 
 ARCHS = ("amd64", "arm64", "riscv64", "s390x")
 PAIRS = [("b1", "amd64"), ("b2", "arm64"), ("b3", "amd64"), ("b3", "arm64"), ("b4", "riscv64"), ("b5", "s390x")]
 PAIRS += [("b5", "riscv64"), ("b5", "amd64")]
+LATER = ("b6", "armhf")  # an architecture that is added later and removed again, and its builder
 SOURCES = [(f"src{at}" if at % 3 else f"lib+{at}.0", f"{at % 2}:1.{at}-1" if at % 4 else f"1.{at}") for at in range(40)]
 RELATIONS = ["libz", "debhelper (>= 13)", "liba (>= 2), libb", "gcc-13 | clang", "libz [armhf]"]
 TEXTS = ["", "no space left", 'a "b" \\ \t\n g\u00fcltig', "x" * 1000, "x" * 1001]
 REPORTS = ["built", "built", "uploaded", "uploaded", "attempted", "waits", "put-back"]
 OPERATIONS = ["give-back"] * 4 + ["take", "take", "dep-wait", "fail", "not-for-us", "rebuild", "build-priority"]
+CHANGES = ["add-arch", "add-builder", "add-builder", "enter", "enter", "enter", "next", "give-back"]
+CHANGES += ["remove-arch", "remove-builder", "forget", "forget"]
 CHECKED = ("summary", "queue", "state", "item", "mine", "depends", "office", "archs", "builders")
 WHOLE = ("office", "archs", "builders")  # the queries without a key
 SERVED = ["--lists", "."]  # further words of a program that serves a folder with the office of these requests
@@ -153,22 +156,27 @@ class Client:
         """The name of a request, and its body, or its parts if it is a query."""
         pick, number = self.chance, self.chance.random()
         builder, arch = pick.choice(PAIRS) if pick.random() < 0.97 else pick.choice([("b1", "s390x"), ("b9", "amd64")])
-        if number < 0.3:
+        if number < 0.28:
             after = pick.choice([None, 0, max(self.load.held, default=0), 10**9]) if pick.random() < 0.2 else ()
             return "next", {"arch": arch, "builder": builder, **({} if after == () else {"after": after})}
-        if number < 0.6:
+        if number < 0.57:
             take = pick.choice(list(self.load.held)) if self.load.held else 0
             return self.with_texts(pick.choice(REPORTS), {"take": take if pick.random() < 0.97 else take + 1})
         source, version = pick.choice(SOURCES)
-        if number < 0.8:
+        if number < 0.75:
             name, named = pick.choice(OPERATIONS), {"arch": arch, "source": source, "version": version}
             return self.with_texts(name, {**named, "builder": builder} if name == "take" else named)
-        if number < 0.84:
+        if number < 0.79:
             lines = [f"{name} {of} {pick.choice(['installable', 'uninstallable no cc'])}" for name, of in SOURCES]
             return "report", {"arch": arch, "text": "\n".join(pick.sample(lines, 3) + ["odd"] * (pick.random() < 0.1))}
-        if number < 0.85:
-            return "add-builder", {"name": f"b{pick.randrange(6, 10)}", "arch": pick.choice(ARCHS)}
-        if number < 0.86:
+        if number < 0.8:
+            name = pick.choice(["add-builder", "add-builder", "remove-builder"])
+            return name, {"name": f"b{pick.randrange(6, 10)}", "arch": pick.choice(ARCHS)}
+        if number < 0.87:
+            if pick.random() < 0.6:
+                return self.change(*LATER, *pick.choice(SOURCES[:4]))
+            return self.change(builder, arch, source, version)
+        if number < 0.88:
             odd = [pick.choice(["s390y", "all", ARCHS[0]])] if pick.random() < 0.1 else []
             archs = pick.sample(ARCHS, pick.choice([1, 1, 2])) + odd
             parts = [{"arch": one, "packages": pick.choice([one if one in ARCHS else "bad", "empty"])} for one in archs]
@@ -176,6 +184,18 @@ class Client:
         word = pick.choice(CHECKED)
         words = {"state": [pick.choice(STATES)], "item": [source], "depends": [source]}.get(word, [])
         return word, [] if word in WHOLE else [builder if word == "mine" else arch, *words]
+
+    def change(self, builder, arch, source, version):
+        """What adds or removes an architecture, a builder or a record, or ends what stands against that. An
+        architecture of the beginning is removed only if something of it is held, as far as was answered."""
+        pick, named = self.chance, {"arch": arch, "source": source, "version": version}
+        name = pick.choice(CHANGES)
+        if name == "remove-arch" and arch in ARCHS:
+            arch = pick.choice([*self.load.held.values(), LATER[1]])
+        bodies = {"add-arch": {"name": arch, "os": "linux", "cpu": arch}, "remove-arch": {"name": arch}}
+        bodies |= dict.fromkeys(("add-builder", "remove-builder"), {"name": builder, "arch": arch})
+        bodies |= {"next": {"arch": arch, "builder": builder}, "enter": {**named, "priority": "extra", "section": "doc"}}
+        return name, bodies.get(name, named)
 
     def with_texts(self, name, body):
         """The body with the further keys that a command of this name needs."""
@@ -206,9 +226,14 @@ class Looked:
         def found(*parts):
             return json.loads(server.ask("GET", "/".join(["/v1", *parts]))[1])
 
-        self.accepted = found("summary", ARCHS[0])["accepted"]
-        asked = [("state", arch, state) for arch in ARCHS for state in STATES] + [("archs",), ("builders",)]
-        self.found = {parts: found(*parts) for parts in asked}
+        self.accepted = found("office")["accepted"]
+        asked = [("state", arch, state) for arch in (*ARCHS, LATER[1]) for state in STATES]
+        self.found = {parts: found(*parts) for parts in [*asked, ("archs",), ("builders",)]}
+
+    def keys(self):
+        """The architecture and the source package of each record."""
+        lists = (answer.get("records", ()) for answer in self.found.values())
+        return {(record["arch"], record["source"]) for records in lists for record in records}
 
     def differences(self, office):
         wanted = {(name, *parts): office.query(name, parts, None)[1] for name, *parts in self.found}
@@ -245,6 +270,7 @@ def judge(office, exchanges, looked):
     except Wrong as why:
         raise Failure(why) from None
     expect(commands is not None, history.why)
+    expect_none(losses(office.records, office.handed, commands, looked.keys()))
     late = [one for one in commands if one.got and one.accepted > one.before]
     expect_none(f"counted after a command that was sent once it was answered: {one}" for one in late)
     others = [one for one in exchanges if one.got and one.accepted is None]
@@ -282,7 +308,8 @@ def kinds(exchanges):
     """How many were answered how, for a reader."""
     accepted = sum(one.accepted is not None for one in exchanges)
     queries = sum(not one.is_command for one in exchanges)
-    return f"{len(exchanges)} requests, {accepted} accepted, {queries} queries"
+    removed = ", ".join(f"{count} {name} {said}" for (name, said), count in sorted(removals(exchanges).items()))
+    return f"{len(exchanges)} requests, {accepted} accepted, {queries} queries; {removed}"
 
 
 assert set(REPORTS + OPERATIONS) - {"build-priority"} <= set(MOVES)

@@ -29,7 +29,9 @@ from client_runs import (
     shown, some,
 )
 from harness import ROOT, SEED, WAIT, Failure, answers_of, expect, expect_none, limit_files, main
+from office_model import REMOVED
 from serve_runs import Server, answer_bytes, received, request_bytes, with_lists_of_page
+from soak_audit import removals
 from store_runs import rows_of
 
 MANY, KILLS = int(os.environ.get("MANY", "10000")), int(os.environ.get("KILLS", "15"))
@@ -465,6 +467,9 @@ def answers_as_one_order(folder):
     with Server(folder, more=client_orders.SERVED) as server:
         met = asyncio.run(client_orders.under_load(server.port, MANY, 50, SEED))
         client_orders.judge(office, met, client_orders.Looked(server))
+    wanted = {(name, said) for name in REMOVED for said in ("accepted", "StillHeld", "refused otherwise")}
+    missing = wanted - removals(met).keys() if MANY >= 10000 else ()
+    expect(not missing, f"no removal was {sorted(missing)}")
     return client_orders.kinds(met)
 
 
@@ -476,7 +481,7 @@ def finds_orders_that_cannot_be(folder):
         met = asyncio.run(client_orders.under_load(server.port, 400, 20, SEED))
         looked = client_orders.Looked(server)
     accepted = sorted((one for one in met if one.accepted is not None), key=lambda one: one.accepted)
-    query = next(one for one in met if one.name == "summary" and one.said["accepted"] > office.accepted + 9)
+    query = next(one for one in met if one.name == "summary" and one.said.get("accepted", 0) > office.accepted + 9)
     one, other, last = accepted[3], accepted[4], accepted[-1]
     plants = {
         "a count twice": (one, {"said": {**one.said, "accepted": other.said["accepted"]}}),
