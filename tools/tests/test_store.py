@@ -5,9 +5,11 @@ find, a second program beside the first, kills, failed writes and merges.
     tools/tests/test_store.py [NAME..]     these tests, or all
 
 From the environment: WB is the program, ./wb of this repository where it is not set; KILLS is how often the program is
-killed, 200 where it is not set; SEED is added to the number of each random choice. What the answers should be is taken
-from tools/dev/large_examples, or from the run without a store, which tools/tests/test_examples.py holds to answers that
-were not computed by the program. A killed program leaves all that it wrote: what a power cut leaves is not tried here.
+killed, 200 where it is not set; ROUNDS is how often something is removed before an opening, 250 where it is not set;
+SEED is added to the number of each random choice. What the answers should be is taken from tools/dev/large_examples,
+from the model of line_model.py, or from the run without a store, which tools/tests/test_examples.py holds to answers
+that were not computed by the program. A killed program leaves all that it wrote: what a power cut leaves is not tried
+here.
 """
 import json
 import os
@@ -18,12 +20,22 @@ import subprocess
 import sys
 import threading
 import time
+from collections import Counter
 from pathlib import Path
 
 from harness import DEV, ROOT, SEED, Failure, answers_of, expect, limit_files, main, run
+from line_model import LineOffice, shown as value_shown
+from office_model import REMOVED
+from soak_audit import COLUMNS
 from store_runs import TWO_ARCHS, Session, copied_database, filled, refusal_of, rows_of
 
 KILLS = int(os.environ.get("KILLS", "200"))
+ROUNDS = int(os.environ.get("ROUNDS", "250"))
+# The columns of each table, and their order.
+TABLES = {
+    "office": ("id, format, handed, accepted", "id"), "arch": ("name, os, cpu", "name"),
+    "builder": ("name, arch", "name, arch"), "source_record": (", ".join(COLUMNS), "arch, source"),
+}
 
 
 # ---- a history over many runs of one store
@@ -87,11 +99,16 @@ class History:
         ]
         expect(given == sorted(set(given)), "a take number was given twice")
 
+    def removals(self):
+        """How many of each command that removes were answered in which way."""
+        told = [(line.split()[0], json.loads(answer)) for line, answer in self.told if answer]
+        return Counter((name, got.get("refused") or got["ok"]) for name, got in told if name in REMOVED)
+
 
 def open_again(session, history, number, chance):
     """An unfinished command is settled by one that is accepted, and takes that were answered are held still."""
-    line = f"enter amd64 probe{number} 1.0 optional devel"
-    history.note(line, session.ask(line))
+    for line in ("add-arch amd64 linux amd64", f"enter amd64 probe{number} 1.0 optional devel"):
+        history.note(line, session.ask(line))
     for take in chance.sample(sorted(history.held), min(2, len(history.held))):
         line = f"built {take}"
         answer = session.ask(line)
@@ -114,6 +131,13 @@ KINDS = (
         "next amd64 b1 --after 3",
     ]
     + ["merge sources-MERGED amd64=packages-MERGED arm64=packages-MERGED"]
+    + 2 * ["forget ARCH NAME VERSION", "enter armhf FEW VERSION optional devel", "give-back armhf FEW VERSION"]
+    + [
+        "forget armhf FEW VERSION", "remove-arch armhf", "remove-arch ARCH", "remove-builder IDLE ARCH",
+        "remove-builder b1 amd64", "remove-builder b3 armhf", "add-arch armhf linux arm", "add-arch arm64 linux arm64",
+        "add-builder IDLE ARCH", "add-builder b1 amd64", "add-builder b2 arm64", "add-builder b3 armhf",
+        "next armhf b3",
+    ]
 )
 
 
@@ -125,7 +149,7 @@ def commands(chance, last_take, count):
         last_take += line.startswith("next")
         words = {
             "ARCH": chance.choice(["amd64", "amd64", "arm64"]), "NAME": f"p{chance.randrange(60)}",
-            "MERGED": str(chance.randrange(1, 3)),
+            "FEW": f"p{chance.randrange(3)}", "IDLE": f"b{chance.randrange(4, 6)}", "MERGED": str(chance.randrange(1, 3)),
         }
         words |= {
             "VERSION": chance.choice(["1.0", "1.0", "2.0"]), "TAKE": str(max(1, last_take - chance.randrange(25))),
@@ -282,10 +306,12 @@ def whole_after_kill(folder):
     open_again(session, history, KILLS, random.Random(SEED))
     session.end()
     history.check(folder)
-    unanswered = sum(answer is None for _, answer in history.told)
+    unanswered, removals = sum(answer is None for _, answer in history.told), history.removals()
+    missing = {(name, said) for name in REMOVED for said in (name, "StillHeld")} - removals.keys()
+    expect(KILLS < 100 or not missing, f"no removal was {missing}")
     return (
         f"{KILLS} kills, {len(history.told)} lines, {history.accepted} accepted, {unanswered} of them carried out and "
-        "not answered"
+        f"not answered, {sum(removals[name, name] for name in REMOVED)} removals"
     )
 
 
@@ -322,6 +348,69 @@ def whole_after_failed_writes(folder):
     return f"{stopped} of 25 runs stopped"
 
 
+# The ways in which each command that removes is answered.
+WAYS = {
+    "remove-arch": "ok BadName UnknownArch StillHeld",
+    "remove-builder": "ok BadName UnknownArch UnknownBuilder WrongArch StillHeld",
+    "forget": "ok BadName BadVersion UnknownArch UnknownSource OtherVersion StillHeld",
+}
+
+
+def removal(chance, office):
+    """A line that removes something, most often what is there."""
+    records = list(office.records.values())
+    held = [record for record in records if record.holder] or records
+    pairs = [(name, arch) for name, archs in office.builders.items() for arch in sorted(archs)]
+    subjects = {
+        "remove-arch": [*((arch,) for arch in office.archs), ("s390x",), ("all",)],
+        "remove-builder": [*pairs, *pairs, ("b9", "amd64"), ("b1", "s390x"), ("b1", "arm64"), ("-", "amd64")],
+        "forget": [(record.arch, record.source, record.version) for record in chance.choice([held, records, records])],
+    }
+    odd = [("s390x", "p1", "1.0"), ("amd64", "nosuch", "1.0"), ("amd64", "p", "1.0"), ("amd64", "p1", "1_0")]
+    subjects["forget"] = chance.choices(subjects["forget"] or odd, k=8) + odd
+    name = chance.choice(list(subjects))
+    words = list(chance.choice(subjects[name]))
+    words[2:] = [f"{version}~" if chance.random() < 0.2 else version for version in words[2:]]
+    return " ".join([name, *words])
+
+
+def reopens_after_each_removal(folder):
+    """Lines at random, in half of the rounds the ends of all holds of an architecture, a line that removes something,
+    and then another opening: the answers and the rows are those of the model, and each way comes in which a removal is
+    answered."""
+    write_lists(folder)
+    office, chance, met = LineOffice(folder), random.Random(SEED), Counter()
+    for number in range(ROUNDS):
+        lines = [*TWO_ARCHS, *commands(chance, office.handed, 12)]
+        wanted = office.answers(lines)
+        freed = chance.choice([*office.archs, None, None])
+        held = [record for record in office.records.values() if record.holder and record.arch == freed]
+        lines += [f"give-back {record.arch} {record.source} {record.version}" for record in held]
+        wanted += office.answers(lines[len(wanted) :])
+        lines.append(removal(chance, office))
+        wanted.append(office.answer(lines[-1]))
+        answers = answers_of(folder, lines)
+        wrong = [each for each in zip(lines, answers, wanted) if each[1] != each[2]]
+        expect(not wrong and len(answers) == len(lines), f"round {number}: {wrong[:1]}")
+        rows = table_rows(folder)
+        differing = sorted({*rows} ^ {*office.rows()})[:4]
+        expect(rows == office.rows(), f"round {number}: after {lines[-1]} the rows differ in {differing}")
+        met[lines[-1].split()[0], answers[-1].get("refused", "ok")] += 1
+    missing = {(name, way) for name, ways in WAYS.items() for way in ways.split()} - met.keys()
+    expect(ROUNDS < 200 or not missing, f"no removal was {sorted(missing)}")
+    return ", ".join(f"{count} {name} {way}" for (name, way), count in sorted(met.items()))
+
+
+def table_rows(folder):
+    """The rows of the file as the model has them."""
+    with copied_database(folder) as database:
+        return [
+            " ".join([table, *map(value_shown, row)])
+            for table, (columns, order) in TABLES.items()
+            for row in database.execute(f"SELECT {columns} FROM {table} ORDER BY {order}")
+        ]
+
+
 def sqlite3_reads_it(folder):
     """sqlite3 reads what a run left, both after its end and after a kill with the log still full."""
     count = filled(folder)
@@ -351,7 +440,7 @@ def answers_the_questions_of_its_page(folder):
 TESTS = [
     keeps_records, answers_as_stated, answers_large_examples, answers_as_one_run_over_many, second_program_is_refused,
 ]
-TESTS += [merge_over_a_store]
+TESTS += [merge_over_a_store, reopens_after_each_removal]
 TESTS += [sqlite3_reads_it, answers_the_questions_of_its_page, whole_after_failed_writes, whole_after_kill]
 if __name__ == "__main__":
     sys.exit(main(TESTS))
