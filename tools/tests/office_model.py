@@ -87,6 +87,11 @@ FORMS = {
 }
 ADDED = {"add-arch": "arch", "add-builder": "builder", "enter": "source"}  # what each of these commands adds
 REMOVED = {"remove-arch": "arch", "remove-builder": "builder", "forget": "source"}  # what each of these removes
+REMOVALS = {  # how each is answered
+    "remove-arch": "ok BadName UnknownArch StillHeld",
+    "remove-builder": "ok BadName UnknownArch UnknownBuilder WrongArch StillHeld",
+    "forget": "ok BadName BadVersion UnknownArch UnknownSource OtherVersion StillHeld",
+}
 
 
 def parts_of(version):

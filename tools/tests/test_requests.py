@@ -26,7 +26,7 @@ import request_cases as by_hand
 import request_queries
 from harness import SEED, Failure, expect, main, trial_program
 from request_reading import BODY_LIMIT, FAULTS, FORMS, HEAD_LIMIT, PHRASES, QUERIES, judge
-from office_model import ADDED, ARCHS, BUILDERS, HELD, MOVES, PRIORITIES, RELATIONS, REMOVED, STATES, STATUSES
+from office_model import ADDED, ARCHS, BUILDERS, HELD, MOVES, PRIORITIES, RELATIONS, REMOVALS, STATES, STATUSES
 from office_model import Office, Record
 from request_parts import ARCH_NAMES, ARCH_WORDS, BYTES, FIELDS, LABELS, NEEDED, ODD_LINES, OTHERS, REASONS
 from request_parts import TARGET_PARTS, TARGETS, VERSIONS
@@ -129,7 +129,7 @@ class Maker:
         values = {"arch": arch, "source": record.source, "version": version, "builder": pick.choice(builders)}
         if name in ADDED:
             values |= self.added(name, record)
-        if name in REMOVED:
+        if name in ("remove-arch", "remove-builder"):
             values |= self.removed(name)
         if pick.random() < 0.06:
             values[pick.choice(["arch", "source"])] = pick.choice(["armhf", "nosuch", "all", "x" * 40, "_", ""])
@@ -175,15 +175,16 @@ class Maker:
 
     def removed(self, name):
         """Which architecture, or which builder from which architecture, is removed: so too."""
-        pick, office = self.choice, self.office
+        office = self.office
         held = sorted({(record.holder, record.arch) for record in office.records.values() if record.holder})
-        if name == "remove-arch":
-            later = [arch for arch in office.archs if arch not in ARCHS]
-            return {"name": pick.choice([*later, *later, *(arch for _, arch in held), "s390x", "all"])}
         pairs = [(builder, arch) for builder, archs in office.builders.items() for arch in sorted(archs)]
         later = [(builder, arch) for builder, arch in pairs if arch not in BUILDERS.get(builder, ())]
-        others = [("b9", ARCHS[0]), ("b1", "s390x"), ("-", ARCHS[0])]
-        return dict(zip(("name", "arch"), pick.choice([*later, *later, *held, *others]))) if name != "forget" else {}
+        groups = [later, later, held, [("b9", ARCHS[0]), ("b1", "s390x"), ("-", ARCHS[0])]]
+        if name == "remove-arch":
+            later = [arch for arch in office.archs if arch not in ARCHS]
+            groups = [later, later, [arch for _, arch in held], ["s390x", "all"]]
+        one = self.choice.choice(self.choice.choice([group for group in groups if group]))
+        return {"name": one} if name == "remove-arch" else dict(zip(("name", "arch"), one))
 
     def report(self, arch):
         """Some lines of a report, of which most can be read."""
@@ -409,13 +410,17 @@ def answers_mutated_requests():
     """Each request is answered as the second reading of the rules says, and each fault and each refusal that requests
     can reach comes."""
     begins, records = lists()
-    office, stands = Office(records), collections.Counter()
+    office, stands, removals = Office(records), collections.Counter(), set()
     maker = Maker(office, random.Random(SEED))
     with Exchanges(*begins) as exchanges:
         for first in range(0, REQUESTS, BATCH):
             requests = [maker.request() for _ in range(min(BATCH, REQUESTS - first))]
-            stands += judged(office, requests, exchanges.ask(requests), first)
+            answers = exchanges.ask(requests)
+            stands += judged(office, requests, answers, first)
+            removals |= set(filter(None, map(removal_of, requests, answers)))
     if REQUESTS >= 50000:
+        missing = {(name, way) for name, ways in REMOVALS.items() for way in ways.split()} - removals
+        expect(not missing, f"no removal was {sorted(missing)}")
         wanted = {
             f"{status} {name}"
             for name, status in {**FAULTS, **STATUSES, **dict.fromkeys([*FORMS, "again", *QUERIES], 200)}.items()
@@ -424,6 +429,15 @@ def answers_mutated_requests():
     return f"SEED={SEED}, {REQUESTS} requests: " + ", ".join(
         f"{count} {name}" for name, count in sorted(stands.items())
     )
+
+
+def removal_of(data, answered):
+    """The name of a command that removes, and how it was answered; none of another request."""
+    name = data.partition(b" HTTP/")[0].removeprefix(b"POST /v1/").decode(errors="replace")
+    if name not in REMOVALS or not answered[2]:
+        return None
+    said = json.loads(answered[2].partition(b"\r\n\r\n")[2])
+    return name, said.get("refused", "ok" if "ok" in said else "")
 
 
 def answers_at_the_limits():

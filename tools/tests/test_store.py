@@ -25,7 +25,7 @@ from pathlib import Path
 
 from harness import DEV, ROOT, SEED, Failure, answers_of, expect, limit_files, main, run
 from line_model import LineOffice, shown as value_shown
-from office_model import REMOVED
+from office_model import REMOVALS
 from soak_audit import COLUMNS
 from store_runs import TWO_ARCHS, Session, copied_database, filled, refusal_of, rows_of
 
@@ -102,7 +102,7 @@ class History:
     def removals(self):
         """How many of each command that removes were answered in which way."""
         told = [(line.split()[0], json.loads(answer)) for line, answer in self.told if answer]
-        return Counter((name, got.get("refused") or got["ok"]) for name, got in told if name in REMOVED)
+        return Counter((name, got.get("refused") or got["ok"]) for name, got in told if name in REMOVALS)
 
 
 def open_again(session, history, number, chance):
@@ -307,11 +307,11 @@ def whole_after_kill(folder):
     session.end()
     history.check(folder)
     unanswered, removals = sum(answer is None for _, answer in history.told), history.removals()
-    missing = {(name, said) for name in REMOVED for said in (name, "StillHeld")} - removals.keys()
+    missing = {(name, said) for name in REMOVALS for said in (name, "StillHeld")} - removals.keys()
     expect(KILLS < 100 or not missing, f"no removal was {missing}")
     return (
         f"{KILLS} kills, {len(history.told)} lines, {history.accepted} accepted, {unanswered} of them carried out and "
-        f"not answered, {sum(removals[name, name] for name in REMOVED)} removals"
+        f"not answered, {sum(removals[name, name] for name in REMOVALS)} removals"
     )
 
 
@@ -346,14 +346,6 @@ def whole_after_failed_writes(folder):
     history.check(folder)
     expect(stopped, "no write failed")
     return f"{stopped} of 25 runs stopped"
-
-
-# The ways in which each command that removes is answered.
-WAYS = {
-    "remove-arch": "ok BadName UnknownArch StillHeld",
-    "remove-builder": "ok BadName UnknownArch UnknownBuilder WrongArch StillHeld",
-    "forget": "ok BadName BadVersion UnknownArch UnknownSource OtherVersion StillHeld",
-}
 
 
 def removal(chance, office):
@@ -396,7 +388,7 @@ def reopens_after_each_removal(folder):
         differing = sorted({*rows} ^ {*office.rows()})[:4]
         expect(rows == office.rows(), f"round {number}: after {lines[-1]} the rows differ in {differing}")
         met[lines[-1].split()[0], answers[-1].get("refused", "ok")] += 1
-    missing = {(name, way) for name, ways in WAYS.items() for way in ways.split()} - met.keys()
+    missing = {(name, way) for name, ways in REMOVALS.items() for way in ways.split()} - met.keys()
     expect(ROUNDS < 200 or not missing, f"no removal was {sorted(missing)}")
     return ", ".join(f"{count} {name} {way}" for (name, way), count in sorted(met.items()))
 
