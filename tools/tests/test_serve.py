@@ -38,6 +38,7 @@ ENTERED = (
 
 # ---- paths
 
+S8 = {"arch": "amd64", "source": "s8", "version": "1.8"}
 # Commands by HTTP and as lines, with the status that is answered.
 COMMANDS = [
     ("next", {"arch": "amd64", "builder": "b1"}, "next amd64 b1", 200),
@@ -69,26 +70,11 @@ COMMANDS = [
         "dep-wait amd64 s6 1.6 libz", 200,
     ),
     ("not-for-us", {"arch": "amd64", "source": "s7", "version": "1.7", "note": ""}, "not-for-us amd64 s7 1.7", 200),
-    (
-        "fail", {"arch": "amd64", "source": "s8", "version": "1.8", "note": "x" * 1001},
-        f"fail amd64 s8 1.8 {'x' * 1001}", 422,
-    ),
-    (
-        "rebuild", {"arch": "amd64", "source": "s8", "version": "1.8", "number": 0, "message": ""},
-        "rebuild amd64 s8 1.8 0", 422,
-    ),
-    (
-        "rebuild", {"arch": "amd64", "source": "s8", "version": "1.8", "number": 1, "message": "m"},
-        "rebuild amd64 s8 1.8 1 m", 409,
-    ),
-    (
-        "build-priority", {"arch": "amd64", "source": "s8", "version": "1.8", "value": -7},
-        "build-priority amd64 s8 1.8 -- -7", 200,
-    ),
-    (
-        "build-priority", {"arch": "amd64", "source": "s8", "version": "1.8", "value": 1001},
-        "build-priority amd64 s8 1.8 1001", 422,
-    ),
+    ("fail", {**S8, "note": "x" * 1001}, f"fail amd64 s8 1.8 {'x' * 1001}", 422),
+    ("rebuild", {**S8, "number": 0, "message": ""}, "rebuild amd64 s8 1.8 0", 422),
+    ("rebuild", {**S8, "number": 1, "message": "m"}, "rebuild amd64 s8 1.8 1 m", 409),
+    ("build-priority", {**S8, "value": -7}, "build-priority amd64 s8 1.8 -- -7", 200),
+    ("build-priority", {**S8, "value": 1001}, "build-priority amd64 s8 1.8 1001", 422),
     (
         "report",
         {"arch": "amd64", "text": "s6 1.6 installable\ns7 1.7 installable\ns8 1.8 uninstallable libz missing\n"},
@@ -115,17 +101,16 @@ COMMANDS = [
         "enter armhf s1 : extra libs", 422,
     ),
     ("next", {"arch": "armhf", "builder": "b4"}, "next armhf b4", 200),
-    ("forget", {"arch": "armhf", "source": "s0", "version": "1.0"}, "forget armhf s0 1.0", 409),
-    ("remove-builder", {"name": "b4", "arch": "armhf"}, "remove-builder b4 armhf", 409),
-    ("remove-arch", {"name": "armhf"}, "remove-arch armhf", 409),
-    ("give-back", {"arch": "armhf", "source": "s0", "version": "1.0"}, "give-back armhf s0 1.0", 200),
-    ("forget", {"arch": "armhf", "source": "s0", "version": "1.0"}, "forget armhf s0 1.0", 200),
-    ("forget", {"arch": "armhf", "source": "s0", "version": "1.0"}, "forget armhf s0 1.0", 404),
-    ("remove-builder", {"name": "b4", "arch": "armhf"}, "remove-builder b4 armhf", 200),
-    ("remove-builder", {"name": "b4", "arch": "armhf"}, "remove-builder b4 armhf", 404),
-    ("remove-arch", {"name": "armhf"}, "remove-arch armhf", 200),
-    ("remove-arch", {"name": "armhf"}, "remove-arch armhf", 404),
 ]
+# Each is refused while the package is held, then accepted, and refused again.
+REMOVALS = [
+    ("forget", {"arch": "armhf", "source": "s0", "version": "1.0"}, "forget armhf s0 1.0"),
+    ("remove-builder", {"name": "b4", "arch": "armhf"}, "remove-builder b4 armhf"),
+    ("remove-arch", {"name": "armhf"}, "remove-arch armhf"),
+]
+COMMANDS += [(*one, 409) for one in REMOVALS]
+COMMANDS.append(("give-back", {"arch": "armhf", "source": "s0", "version": "1.0"}, "give-back armhf s0 1.0", 200))
+COMMANDS += [(*one, status) for one in REMOVALS for status in (200, 404)]
 
 
 def curl(server, path, *words, body=None):
