@@ -10,10 +10,10 @@ tools/tests/line_model.py, which shares nothing with the program; so are those o
 
 A merge is also stopped twice: at each call of the one file or of the other, and from what each stop leaves once more,
 with what was written and not synced of both files kept or lost. Not tried are second stops after a stop of both files
-at once, and one file kept where the other is lost. Of lives the second is stopped, by a power that hands its files back
-so that they stop; it also looks at what it hands back. A session, a life with commands that are given at once, is
-stopped at each call of the one file or of the other. The files of a life that were not given back are lost to the
-trial.
+at once, and one file kept where the other is lost. The removal of an architecture with 35,000 records is stopped at some calls of
+the one file or of the other. Of lives the second is stopped, by a power that hands its files back so that they stop; it
+also looks at what it hands back. A session, a life with commands that are given at once, is stopped at each call of the
+one file or of the other. The files of a life that were not given back are lost to the trial.
 
 An opening of a store of format 1, which sqlite3 wrote, is stopped in the same ways, and from what each stop leaves once
 more at each call of the one file or of the other. The tables are then read as they stand, by SQL: they are those of
@@ -130,6 +130,12 @@ FILES = {
     "there": "tar 1.30 installable\nhello 1.0 installable\n",
     "none": "",
 }
+# An office with 35,000 records of an architecture, and some of another one.
+LARGE = "".join(f"Package: s{at:05}\nVersion: 1.{at}-1\nArchitecture: any\nSection: libs\n\n" for at in range(35_000))
+LARGE_OFFICE = [*OFFICE, "add-builder b2 amd64", "merge large amd64=none"]
+MOST_OF_LARGE = 10**6  # calls after which a line that changes all of these counts as one that never ends
+SPREAD = 6  # parts of the calls of such a line, between which it is stopped
+OPENING, WITHIN = 0, 1  # stages of a session that stops
 
 
 # ---- the program
@@ -162,9 +168,12 @@ class Found:
 class Trials:
     """The running program in a folder of its own, with lists and reports there."""
 
+    def __init__(self, files=None):
+        self.files = files or FILES
+
     def __enter__(self):
         self.folder = tempfile.TemporaryDirectory()
-        for name, text in FILES.items():
+        for name, text in self.files.items():
             (Path(self.folder.name) / name).write_text(text, encoding="utf-8")
         pipe = subprocess.PIPE
         self.process = subprocess.Popen(
@@ -211,7 +220,7 @@ class Trials:
     def begin(self, lines, closes):
         """The files are from here on those of an office that answered these lines, and was closed or given up."""
         found = self.trial((self.lines("before", lines), (NEVER, NEVER), LOST), keep=True)
-        wanted = LineOffice(FILES).answers(lines)
+        wanted = LineOffice(self.files).answers(lines)
         expect(found.answers == wanted, f"the answers are {found.answers}, and not {wanted}")
         if closes:
             expect(not self.trial(("close", (NEVER, NEVER), LOST), keep=True).faults, "the office was not closed")
@@ -226,8 +235,8 @@ class Expected:
     """What an office of the model answers to lines after others, and its rows before the first and after each, all of
     which are accepted."""
 
-    def __init__(self, before, lines):
-        office = LineOffice(FILES)
+    def __init__(self, before, lines, files=None):
+        office = LineOffice(files or FILES)
         answers = office.answers(before)
         self.answers, self.states = [], [office.rows()]
         for line in lines:
@@ -254,10 +263,9 @@ class Expected:
         it."""
         done = found.accepted()
         expect(found.answers[:done] == self.answers[first : first + done], f"{where}: the answers are {found.answers}")
-        expect(
-            found.rows in self.states[first + done : last + 1],
-            f"{where}: {done} commands were answered, and the rows are {found.rows}",
-        )
+        if found.rows not in self.states[first + done : last + 1]:
+            shown_ones = f"{found.rows[:50]}, {len(found.rows)} in all" if found.rows else "none"
+            raise Failure(f"{where}: {done} commands were answered, and the rows are {shown_ones}")
         return self.states.index(found.rows)
 
 
@@ -432,6 +440,51 @@ def stop_run(before, lines, closes=True, again=False):
                 stops += 1
         expect(most[0] - least[0] > 2, f"only {most[0] - least[0]} calls of the log are stopped")
         return stops
+
+
+def least_that(holds, near=1):
+    """The least number of which this holds, as it does of all after it, or one above it by less than is near: it is
+    asked of numbers that grow fourfold, and then of one between two."""
+    low, high = -1, 0
+    while not holds(high):
+        low, high = high, 4 * high + 1
+        expect(high < MOST_OF_LARGE, f"it still stops after {low} calls")
+    while high - low > near:
+        middle = (low + high) // 2
+        low, high = (low, middle) if holds(middle) else (middle, high)
+    return high
+
+
+def stop_large(before, line):
+    """The stops of a session of one line that changes very many rows, in the one file or in the other: at calls that
+    are spread over all that the line takes, and closest together where it is about to be answered. Either all of it
+    stands or nothing. Not tried are stops of the closing, after which the files are not given back."""
+    files = FILES | {"large": LARGE}
+    expected, seen, stops = Expected(before, [line], files), set(), 0
+    with Trials(files) as trials:
+        trials.begin(before, True)
+        session = trials.lines("lines", [line]).replace("run", "session")
+
+        def stage_of(calls):
+            """Where the session stops: in the opening, within the line, or after that was answered."""
+            nonlocal stops
+            left = ENDS[stops % len(ENDS)]
+            found, where = trials.trial((session, calls, left)), f"stopped at {calls}, {left}"
+            done, stops = found.accepted(), stops + (not found.faults)
+            if found.rows is not None:
+                seen.add((done, expected.place(found, 0, 1, where)))
+            expect(found.rows is not None or found.faults or done, f"{where}: {found.answers}, and no files")
+            return OPENING if found.faults else WITHIN + done
+
+        for pair in (lambda calls: (calls, NEVER)), (lambda calls: (NEVER, calls)):
+            last = least_that(lambda calls: stage_of(pair(calls)) > WITHIN)
+            first = least_that(lambda calls: stage_of(pair(calls)) > OPENING, last // 32 + 1)
+            between = {first + (last - first) * at // SPREAD for at in range(SPREAD)} | {*range(last - 4, last)}
+            met = {stage_of(pair(calls)) for calls in sorted(between) if first <= calls < last}
+            expect(met <= {WITHIN}, f"not each call from {first} to {last} stops the line")
+        expect(stage_of((NEVER, NEVER)) > WITHIN, "it stops without a stop")
+    expect(seen >= {(0, 0), (1, 1)} and stops > 30, f"{sorted(seen)} are found in {stops} stops")
+    return stops
 
 
 def stop_twice(before, line):
@@ -656,6 +709,7 @@ TESTS |= {
         ["built 1", "built 1", "enter amd64 tar 1.30 required admin"], ["uploaded 1"],
     ),
     "examples": answer_examples,
+    "large-removal": lambda: stop_large(LARGE_OFFICE, "remove-arch amd64"),
     "three-lives": lambda: live(*LIVES),
     "second-life": lambda: stop_life(*LIVES),
     "session": lambda: stop_session([], FIRST + ["next amd64 b1"]),
