@@ -10,10 +10,10 @@ tools/tests/line_model.py, which shares nothing with the program; so are those o
 
 A merge is also stopped twice: at each call of the one file or of the other, and from what each stop leaves once more,
 with what was written and not synced of both files kept or lost. Not tried are second stops after a stop of both files
-at once, and one file kept where the other is lost. The removal of an architecture with 35,000 records is stopped at some calls of
-the one file or of the other. Of lives the second is stopped, by a power that hands its files back so that they stop; it
-also looks at what it hands back. A session, a life with commands that are given at once, is stopped at each call of the
-one file or of the other. The files of a life that were not given back are lost to the trial.
+at once, and one file kept where the other is lost. The removal of an architecture with 35,000 records is stopped at
+some calls of the one file or of the other. Of lives the second is stopped, by a power that hands its files back so that
+they stop; it also looks at what it hands back. A session, a life with commands that are given at once, is stopped at
+each call of the one file or of the other. The files of a life that were not given back are lost to the trial.
 
 An opening of a store of format 1, which sqlite3 wrote, is stopped in the same ways, and from what each stop leaves once
 more at each call of the one file or of the other. The tables are then read as they stand, by SQL: they are those of

@@ -149,7 +149,8 @@ def commands(chance, last_take, count):
         last_take += line.startswith("next")
         words = {
             "ARCH": chance.choice(["amd64", "amd64", "arm64"]), "NAME": f"p{chance.randrange(60)}",
-            "FEW": f"p{chance.randrange(3)}", "IDLE": f"b{chance.randrange(4, 6)}", "MERGED": str(chance.randrange(1, 3)),
+            "FEW": f"p{chance.randrange(3)}", "IDLE": f"b{chance.randrange(4, 6)}",
+            "MERGED": str(chance.randrange(1, 3)),
         }
         words |= {
             "VERSION": chance.choice(["1.0", "1.0", "2.0"]), "TAKE": str(max(1, last_take - chance.randrange(25))),

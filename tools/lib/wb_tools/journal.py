@@ -17,8 +17,8 @@ GREATEST = 1 << 63  # no count and no take number is as great
 HAND_OUTS = ("next", "take")
 IMPORTS = ("merge", "report")
 
-# The state into which each command moves the package that it names, empty if it has no record then; a merge and a report
-# name theirs in files, and what they moved stands in a journal only if the line has their changes.
+# The state into which each command moves the package that it names, empty if it has no record then; a merge and a
+# report name theirs in files, and what they moved stands in a journal only if the line has their changes.
 STATE_AFTER = {
     "enter": "Needs-Build",
     "next": "Building",
