@@ -27,7 +27,7 @@ STORED = ("examples/*/*", "crates/*/data/*", "crates/*/std*", "crates/*/args", "
 STORED += ("*.gz", "COPYING", "HANDLES", "crates.txt", "memory_exceptions")
 # How many wider lines there are today, by the ending, or by the name of a file without one. They may become fewer, and
 # then these numbers fall.
-WIDER = {".rt": 1453, ".antt": 10249}
+WIDER = {".rt": 1285, ".antt": 10109}
 
 
 def files():
