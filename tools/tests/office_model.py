@@ -117,12 +117,12 @@ def parts_of(version):
 
 def order_of(text):
     """A key by which the order of two upstream versions or revisions is that of the policy: letters and numbers in
-    turn."""
+    turn, of which the first number stays, also if it is 0."""
     key = []
     for letters, digits in re.findall(r"([^0-9]*)([0-9]*)", text):
         key.append([-1 if c == "~" else ord(c) if c.isalpha() else ord(c) + 256 for c in letters] + [0])
         key.append(int(digits or "0"))
-    while len(key) > 1 and key[-2:] == [[0], 0]:
+    while len(key) > 2 and key[-2:] == [[0], 0]:
         del key[-2:]
     return [*key, [0]]
 

@@ -103,10 +103,9 @@ def version_key(text: str) -> tuple[object, ...]:
 
 def part_key(part: str) -> tuple[tuple[tuple[int, ...], int], ...]:
     """What is not digits and the number after it, in turn. No digits count as 0, a tilde comes before the end, and
-    letters before all else."""
-    runs = [(other, int(digits or "0")) for other, digits in RUNS.findall(part) if other or digits]
-    weighed = [] if runs == [("", 0)] else [((*map(weight, other), 0), number) for other, number in runs]
-    return (*weighed, ((0,), 0))
+    letters before all else. An empty text has a first number too, so that `0~1` comes before it and before `0`."""
+    runs = [(other, int(digits or "0")) for other, digits in RUNS.findall(part) if other or digits] or [("", 0)]
+    return (*(((*map(weight, other), 0), number) for other, number in runs), ((0,), 0))
 
 
 def weight(character: str) -> int:
