@@ -324,24 +324,31 @@ def says_that_a_merge_is_in_doubt(folder):
         expect(json.loads(said.splitlines()[0])["ok"] == "merge", said)
 
 
+@contextlib.contextmanager
+def through(office, kind=Gate):
+    """A gate through which the operator's command asks the office meanwhile."""
+    gate = kind(office)
+    try:
+        office.settings["PORT"] = gate.port
+        office.write_settings()
+        yield gate
+    finally:
+        gate.close()
+        office.settings["PORT"] = office.port
+        office.write_settings()
+
+
 def says_which_line_is_in_doubt(folder):
     """An answer that is lost: the line stands, it is named, and nothing after it is sent. A query is sent again."""
     with Trial(folder) as office:
         office.fill()
         office.do("start")
-        gate = Gate(office)
-        try:
-            office.settings["PORT"] = gate.port
-            office.write_settings()
+        with through(office) as gate:
             gate.lose += [("/v1/queue/", "answer"), ("/v1/add-builder", "answer")]
             lines = ["queue amd64", "enter amd64 new 1.0 a b", "", "add-builder b5 amd64", "add-builder b6 amd64"]
             said, steps = office.do("run", stdin=office.lines(lines), wanted=3)
             expect([json.loads(line).get("ok") for line in said.splitlines()] == [None, "enter"], said)
             expect("line 4 (add-builder b5 amd64) is in doubt" in steps and "stop the service" not in steps, steps)
-        finally:
-            gate.close()
-            office.settings["PORT"] = office.port
-            office.write_settings()
         said, _ = office.do("run", stdin=office.lines(["mine b5", "mine b6"]), wanted=1)
         expect("UnknownBuilder" in said.splitlines()[1] and "UnknownBuilder" not in said.splitlines()[0], said)
 
@@ -445,14 +452,17 @@ def removes_an_architecture(folder):
 
 
 def removes_nothing_that_is_refused(folder):
-    """An architecture that is not there or of which a record is held, and a call without a terminal: no backup is made,
-    no file is changed, and of many records that are held some are named."""
+    """An architecture that is not there or of which a record is held, a call without a terminal, and a backup that
+    cannot be made: no backup is there, no file is changed, and of many records that are held some are named."""
     held = [f"enter arm64 p{at:02} 1.0 a b" for at in range(12)] + ["next arm64 b1"] * 7 + ["next arm64 b2"] * 5
     idle, served = offices(folder)
     with idle, served:
         for office in (idle, served):
             office.do("run", stdin=office.lines(GOING))
             expect_refused(office, 2, "there is no terminal to ask at; nothing was done: --yes", "arm64")
+            office.fault("bad-trial")
+            expect_refused(office, 1, "the copy does not open as an office", "--yes", "arm64")
+            (office.faults / "bad-trial").unlink()
             for wanted, message, *words in (
                 (1, "the office has no architecture armel (UnknownArch); nothing was done", "armel"),
                 (1, 'summary Arm64: the office answers {"code":11,"refused":"BadName"}; nothing was done', "Arm64"),
@@ -465,7 +475,10 @@ def removes_nothing_that_is_refused(folder):
             expect_refused(office, 1, message, "--dry-run", "arm64")
             office.do("run", stdin=office.lines(["give-back arm64 tar 1.30", "take arm64 b1 hello 1.0", *held]))
             many = "arm64 has 13 records that a builder holds (StillHeld): hello 1.0 (Building by b1), |, and 3 more; "
-            expect_refused(office, 1, many, "--yes", "arm64")
+            steps = expect_refused(office, 1, many, "--yes", "arm64")
+            expect(steps.count("(Building by b") == 10, steps)
+        with through(served, OlderGate) as gate:
+            expect_refused(served, 1, f"port {gate.port} takes no remove-arch; nothing was done", "--yes", "amd64")
 
 
 def expect_refused(office, wanted, messages, *words):
@@ -474,6 +487,15 @@ def expect_refused(office, wanted, messages, *words):
     said, steps = office.do("remove-arch", *words, wanted=wanted)
     expect(not said and all(message in steps for message in messages.split("|")), f"{words}: {said}{steps}")
     expect(office.tree() == before and not office.saved(), f"{words}: it changes files")
+    return steps
+
+
+class OlderGate(Gate):
+    """A gate before an office that has no command remove-arch."""
+
+    def refusal(self, method, path, head, body):
+        head = "HTTP/1.1 404 Not Found\r\nContent-Length: 18\r\nConnection: close\r\n\r\n"
+        return f'{head}{{"http":"NoRoute"}}'.encode() if path == "/v1/remove-arch" else None
 
 
 def asks_at_a_terminal(folder):
@@ -494,16 +516,9 @@ def asks_at_a_terminal(folder):
         counted = "removed arm64, 2 records and 2 pairs with a builder, as counted before one command of others\n"
         expect(json.loads(said[-1])["ok"] == "remove-arch" and counted in shown, f"{said}{shown}")
         office.do("run", stdin=office.lines(GOING))
-        gate = Gate(office)
-        try:
-            office.settings["PORT"] = gate.port
-            office.write_settings()
+        with through(office) as gate:
             _, shown = at_a_terminal(office, b"y\n", 3, lambda: gate.lose.append(("/v1/remove-arch", "answer")))
             expect("line 1 (remove-arch arm64) is in doubt" in shown and not has_arch(office), shown)
-        finally:
-            gate.close()
-            office.settings["PORT"] = office.port
-            office.write_settings()
 
 
 def take_one(office, line):
