@@ -1,7 +1,8 @@
 #!/usr/bin/env python3
 """Tests at the size of Debian's archive and above: merges of a Sources list of 70,000 paragraphs and a Packages list of
 77,584, the last of each as large as one may be; openings of an office of 59,851 records, and of one of 40,000 in format
-1; a run of 70,000 lines; and a report of 40,000. Each call of the program has two minutes of the processor.
+1; a run of 70,000 lines; a report of 40,000; and the removal of an architecture with 35,000 records. Each call of the
+program has two minutes of the processor.
 
     tools/tests/test_real_size.py [NAME..]     these tests, or all
 
@@ -25,8 +26,9 @@ from collections import Counter
 from pathlib import Path
 
 import real_archive as archive
+from client_runs import peak
 from harness import DEV, HERE, expect, main, program
-from store_runs import edit, rows_of
+from store_runs import Session, edit, rows_of
 
 SECONDS = 120  # of the processor, which a call of the program may take
 BEGUN = [f"add-arch {archive.ARCH} linux amd64", f"add-builder b1 {archive.ARCH}"]
@@ -38,6 +40,8 @@ NEVER = "zz-on-no-day"
 OLD_RECORDS = 40_000  # of the office in format 1
 RUN_LINES, ENTERED, HANDED = 70_000, 20_000, 9_999
 REPORTED = 40_000
+REMOVED, OTHER = 35_000, "arm64"  # the records that are removed at once, and the architecture that stays
+MEGABYTES = 64  # of memory that the program takes at most while it removes them
 
 
 # ---- runs
@@ -94,6 +98,11 @@ def difference(found, wanted):
 
 
 # ---- the answers
+
+
+def done(line, accepted):
+    """A line of a command that is done, with its answer."""
+    return line, {"accepted": accepted, "ok": line.split()[0]}
 
 
 def queue_answer(records):
@@ -164,7 +173,7 @@ class FirstDay:
         expect(len(self.lists[0]) == archive.PARAGRAPHS, f"{len(self.lists[0])} paragraphs are made")
         write_lists(self.folder, "first", *self.lists)
         merge = merge_answer(merge_of("first"), {}, self.records, 3)
-        asked = [*((line, {"accepted": at + 1, "ok": line.split()[0]}) for at, line in enumerate(BEGUN)), merge]
+        asked = [*(done(line, at) for at, line in enumerate(BEGUN, 1)), merge]
         self.spent = expect_answers(self.folder, asked)
 
     def lay_out(self, folder):
@@ -229,7 +238,7 @@ def before_the_second_day(day, records):
         records[source.name] = records[source.name] | {"state": "Dep-Wait", "waits": waits}
     for line in lines:
         count += 1
-        asked.append((line, {"accepted": count, "ok": line.split()[0]}))
+        asked.append(done(line, count))
     return asked, count
 
 
@@ -243,7 +252,7 @@ def faults_at_the_end_of_long_lists(folder):
         (folder / f"{name}-first").symlink_to(day.folder / f"{name}-first")
     bad = [(f"merge sources {archive.ARCH}=packages-first", "Sources", len(day.lists[0]))]
     bad += [(f"merge sources-first {archive.ARCH}=packages", "Packages", len(day.lists[1]))]
-    asked = [(line, {"accepted": at + 1, "ok": line.split()[0]}) for at, line in enumerate(BEGUN)]
+    asked = [done(line, at) for at, line in enumerate(BEGUN, 1)]
     asked += [bad_list_answer(*it) for it in bad] + looks({}, 2)
     return in_seconds(expect_answers(folder, asked, ["run"]))
 
@@ -365,9 +374,73 @@ def report_answer(name, changed, accepted):
     return f"report {archive.ARCH} {name}", {"accepted": accepted, "changed": changed, "ok": "report"}
 
 
+def removal_of_35000_records(folder):
+    """An architecture goes with its 35,000 records and its builders once none of these is held. The file then has
+    nothing of it, and all of another architecture. It is not there a second time, and is empty once it is added again,
+    but its take numbers do not return. The program takes 64 MB at most."""
+    asked, records = before_the_removal(folder)
+    first = expect_answers(folder, asked)
+    accepted, unknown = len(asked), {"code": 1, "refused": "UnknownArch"}
+    of_other = f"SELECT * FROM source_record WHERE arch = '{OTHER}' ORDER BY source"
+    before, [(count,)] = rows_of(folder, of_other), rows_of(folder, "SELECT count(*) FROM source_record")
+    expect(count == REMOVED + len(before), f"it begins with {count} records, {len(before)} of them of {OTHER}")
+    line = f"remove-arch {archive.ARCH}"
+    asked = [(line, {"code": 23, "refused": "StillHeld"}), done("put-back 1", accepted + 1), done(line, accepted + 2)]
+    asked += [(line, unknown), (f"summary {archive.ARCH}", unknown), ("built 1", {"code": 8, "refused": "NotHeld"})]
+    asked.append(("mine b2", {"code": 2, "refused": "UnknownBuilder"}))
+    second, most = expect_in_session(folder, asked)
+    expect(most <= MEGABYTES, f"the program takes {most:.0f} MB")
+    for table, column in (("arch", "name"), ("builder", "arch"), ("source_record", "arch")):
+        met = rows_of(folder, f"SELECT DISTINCT {column} FROM {table}")
+        expect(met == [(OTHER,)], f"of {table} there is left {met}")
+    expect(rows_of(folder, of_other) == before, f"the records of {OTHER} are others")
+    asked = [done(line, accepted + 3 + at) for at, line in enumerate(BEGUN)]
+    asked += [*looks({}, accepted + 4), (f"next {archive.ARCH} b1", {"code": 7, "refused": "QueueEmpty"})]
+    name, record = next(iter(records.items()))
+    asked.append(done(f"enter {archive.ARCH} {name} {record['version']} extra doc", accepted + 5))
+    new = record | {"build": record["version"], "number": 0}
+    asked.append(handed_answer(f"next {archive.ARCH} b1", new, 3, accepted + 6))
+    return f"{in_seconds(first, second, expect_answers(folder, asked))}; {most:.0f} MB"
+
+
+def before_the_removal(folder):
+    """What is asked of an office of two architectures, with the answers: a merge for each, of few source packages for
+    the one that stays, and an assignment of each. And the records of the one that is to go."""
+    sources = [source for source in archive.first_day() if source.is_listed][:REMOVED]
+    few = [source for source in sources if source.archs != "amd64 i386"][:1000]
+    write_lists(folder, "many", map(archive.source_paragraph, sources), archive.packages_of(sources, FIRST_LAST))
+    write_lists(folder, "few", map(archive.source_paragraph, few), [])
+    records = {source.name: archive.record_of(source) for source in sources}
+    lines = [*BEGUN, f"add-arch {OTHER} linux {OTHER}", f"add-builder b1 {OTHER}", f"add-builder b2 {archive.ARCH}"]
+    asked = [done(line, at) for at, line in enumerate(lines, 1)]
+    asked.append(merge_answer(merge_of("many"), {}, records, 6))
+    line, answer = merge_answer(f"merge sources-few {OTHER}=packages-few", {}, dict.fromkeys(few), 7)
+    answer["parts"][0]["arch"] = OTHER
+    record = records[few[0].name] | {"arch": OTHER, "build": few[0].version, "number": 0}
+    take = f"take {OTHER} b1 {few[0].name} {few[0].version}"
+    asked += [(line, answer), handed_answer(f"next {archive.ARCH} b1", archive.queue_of(records)[0], 1, 8)]
+    return [*asked, handed_answer(take, record, 2, 9)], records
+
+
+def expect_in_session(folder, asked):
+    """The same of lines that are given one after another, each once the one before is answered. Gives the seconds of
+    the processor that the run took, and how many MB of memory it had at most."""
+    before = resource.getrusage(resource.RUSAGE_CHILDREN)
+    session = Session(folder)
+    for line, wanted in asked:
+        found = json.loads(session.ask(line))
+        expect(found == wanted, f"{line} is answered {found}, and not {wanted}")
+    most = peak(session)
+    expect((status := session.end()) == 1, f"status {status} in place of 1")
+    after = resource.getrusage(resource.RUSAGE_CHILDREN)
+    spent = after.ru_utime + after.ru_stime - before.ru_utime - before.ru_stime
+    expect(spent < SECONDS, f"it took {spent:.0f} seconds of the processor")
+    return spent, most
+
+
 TESTS = [
     merge_of_70000_paragraphs, faults_at_the_end_of_long_lists, opening_of_59851_records,
-    opening_of_40000_records_of_format_1, run_of_70000_lines, report_of_40000_lines,
+    opening_of_40000_records_of_format_1, run_of_70000_lines, report_of_40000_lines, removal_of_35000_records,
 ]
 
 if __name__ == "__main__":
