@@ -501,17 +501,20 @@ def is_quick(folder):
 
 
 class StandIn(http.server.ThreadingHTTPServer):
-    """What stands for a serving office: it answers which records are in a state, and nothing else."""
+    """What stands for a serving office: it answers which records are in a state, but for architectures that it does not
+    have, and nothing else."""
 
-    def __init__(self, records, port=0):
+    def __init__(self, records, port=0, removed=()):
         class Handler(http.server.BaseHTTPRequestHandler):
             def do_GET(self):
                 found = re.fullmatch("/v1/state/([a-z0-9]+)/([A-Za-z-]+)", self.path)
                 chosen = [one for one in records if found and (one["arch"], one["state"]) == found.groups()]
-                said = json.dumps(
-                    {"arch": found[1], "records": chosen, "state": found[2]} if found else {"http": "NoRoute"}
-                ).encode()
-                self.send_response(200 if found else 404)
+                answer = {"http": "NoRoute"}
+                if found:
+                    answer = {"arch": found[1], "records": chosen, "state": found[2]}
+                    answer = {"code": 1, "refused": "UnknownArch"} if found[1] in removed else answer
+                said = json.dumps(answer).encode()
+                self.send_response(200 if "arch" in answer else 404)
                 self.send_header("Content-Length", str(len(said)))
                 self.end_headers()
                 self.wfile.write(said)
@@ -583,6 +586,19 @@ def asks_a_serving_office(folder):
         folder, "-", "ages", "--wait", "0", "--url", office.url, said=example().data(), status=3,
         message="it does not answer: Connection refused",
     )
+
+
+def asks_for_no_architecture_that_was_removed(folder):
+    """An architecture that the journal names and the office does not have any more is passed over, unless it is asked
+    for by its name."""
+    building = record("zlib", "Building", holder="b1", take=4)
+    with StandIn([building], removed=["arm64"]) as office:
+        met = call(folder, "-", "ages", "--url", office.url, "--json", said=example().data()).splitlines()
+        expect([(row["arch"], row["source"]) for row in map(json.loads, met)] == [("amd64", "zlib")], f"{met}")
+        met = call(folder, "-", "suspects", "--url", office.url, "--json", said=example().data())
+        expect(json.loads(met)["source"] == "zlib", f"{met}")
+        words = ("ages", "--url", office.url, "--arch", "arm64")
+        call(folder, "-", *words, said=example().data(), status=1, message="it has no architecture arm64")
 
 
 def waits_for_an_office_that_starts(folder):
@@ -722,7 +738,7 @@ TESTS = [
 ]
 TESTS += [
     goes_on_after_a_cut_line, reports_malformed_lines, takes_the_words_that_it_says, is_quick, asks_a_serving_office,
-    waits_for_an_office_that_starts, stands_on_the_page,
+    asks_for_no_architecture_that_was_removed, waits_for_an_office_that_starts, stands_on_the_page,
 ]
 TESTS += [reads_what_the_program_writes]
 

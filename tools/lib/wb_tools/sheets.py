@@ -5,7 +5,7 @@ from collections.abc import Iterable, Iterator
 from dataclasses import dataclass, field
 from typing import Any
 
-from wb_tools.answers import STATES, ByState, Record, ask, counted, printable
+from wb_tools.answers import STATES, ByState, Record, UnknownArch, ask, counted, printable
 from wb_tools.index.asking import Build, Event, Gap, Import, Index, Since, median_of
 from wb_tools.index.writing import ENDS
 from wb_tools.journal import Key, day_of, time_of
@@ -147,10 +147,15 @@ def longest_first(rows: list[Row]) -> list[Row]:
 
 
 def asked(index: Index, words: argparse.Namespace, state: str) -> Iterator[tuple[Record, Since | None]]:
-    """The records in a state of a serving office, of one architecture or of all that the journal names, and since when
-    each is in it."""
+    """The records in a state of a serving office, of one architecture or of all that the journal names and the office
+    still has, and since when each is in it."""
     for arch in [words.arch] if words.arch else index.archs():
-        answer = ask(words.url, "by-state", [arch, state], words.wait, words.keys.of(""))
+        try:
+            answer = ask(words.url, "by-state", [arch, state], words.wait, words.keys.of(""))
+        except UnknownArch:
+            if words.arch:
+                raise
+            continue  # it was removed
         assert isinstance(answer, ByState)
         since = index.since_each(arch, state, {record.source: record.take for record in answer.records})
         yield from ((record, since[record.source]) for record in answer.records)
