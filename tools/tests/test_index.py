@@ -8,6 +8,7 @@ copies.
 
 All that is wanted was written by hand, but for indexes that are compared with one another.
 """
+import contextlib
 import gzip
 import json
 import sqlite3
@@ -16,6 +17,7 @@ import time
 
 from harness import expect, main
 from test_history import NOW, Journal, call, example, on
+from wb_tools.answers import STATES
 from wb_tools.index import reading, tables, writing
 from wb_tools.index.asking import Index, Since
 from wb_tools.index.reading import read_on, read_whole
@@ -259,6 +261,67 @@ def doubts_what_is_before_a_gap(folder):
         one.add(on(12, "20:01:00"), "add-builder", name="b8", arch="amd64")
 
 
+def removed():
+    """The two packages with another architecture, on which a merge that names nothing ended a build; this architecture
+    is removed, and a package of the first forgotten."""
+    one = named()
+    changes = [["hello", None, "Needs-Build", "1.0-3"], ["zlib", None, "Installed", "1"]]
+    one.merge(on(7, "08:00:00"), ("arm64", changes))
+    one.hand_out(on(7, "09:00:00"), "b2", "hello", "1.0-3", arch="arm64")
+    one.add(on(7, "10:00:00"), "merge", {"parts": [{"added": 0, "arch": "arm64", "changed": 1}]}, parts=[])
+    one.add(on(8, "08:00:00"), "remove-arch", name="arm64")
+    one.add(on(8, "09:00:00"), "forget", arch="amd64", source="zlib", version="1")
+    return one
+
+
+def removes_what_an_architecture_has(folder):
+    """Each package of an architecture that is removed has that in its history, with its last version, and is in no
+    state from there on; what builds there by the journal ends; nothing of others changes. What is entered once it is
+    there again is in its state since then."""
+    one = removed()
+    index, columns = index_of(one), ("arch", "source", "command", "was", "state", "version")
+    met = [tuple(getattr(event, name) for name in columns) for event in index.events("accepted > 11")]
+    wanted = [("arm64", "hello", "remove-arch", None, "", "1.0-3"), ("arm64", "zlib", "remove-arch", None, "", "1")]
+    expect(met == [*wanted, ("amd64", "zlib", "forget", None, "", "1")], f"{met}")
+    last = list(index.builds(arch="arm64"))[-1]
+    expect((last.result, last.command, last.took) == ("other", "remove-arch", None), f"{last}")
+    left = [(resting.key, resting.event.state) for resting in index.resting(STATES)]
+    expect(left == [(("amd64", "hello"), "Needs-Build")] and index.names_with("l") == ["hello"], f"{left} are left")
+    expect(not index.gaps() and not list(index.builds(result="building")), "a gap, or a build that goes on")
+    expect_since(index, {("hello", "Needs-Build"): since(5, "09:00:00"), ("zlib", "Installed"): None})
+    one.add(on(9, "08:00:00"), "add-arch", name="arm64", os="linux", cpu="arm64")
+    words = {"arch": "arm64", "source": "hello", "version": "2.0", "priority": "extra", "section": "misc"}
+    one.add(on(9, "09:00:00"), "enter", **words)
+    met = index_of(one).since(("arm64", "hello"), "Needs-Build")
+    expect(met == since(9, "09:00:00"), f"{met}")
+    one.add(on(9, "10:00:00"), "remove-arch", name="s390x")  # of which the journal names no package
+    expect(len(index_of(one).events("accepted > 11")) == 4, "another architecture has events")
+    (folder / "journal").write_bytes(one.data())
+    kept = writing.FLUSH
+    try:
+        writing.FLUSH = 1
+        update_here(folder)
+    finally:
+        writing.FLUSH = kept
+    expect_same(folder, one.data())
+
+
+def brings_back_what_a_copy_has(folder):
+    """After an office was restored from a copy of before a removal all is in the states of then."""
+    one, before = removed(), named().accepted
+    again = Named(accepted=before + 3)
+    again.add(on(10, "08:00:00"), "add-builder", name="b7", arch="amd64")
+    (folder / "journal").write_bytes(one.data())
+    update(folder)
+    (folder / "journal").write_bytes(one.data() + again.data())
+    update(folder)
+    expect_same(folder, one.data() + again.data())
+    index = Index(tables.open_to_read(folder / "journal.index"))
+    met = [resting.key for resting in index.resting(STATES)]
+    keys = [("amd64", "zlib"), ("amd64", "hello"), ("arm64", "zlib"), ("arm64", "hello")]
+    expect(met == keys and len(list(index.builds(result="building"))) == 1, f"{met}")
+
+
 def takes_odd_changes_for_none(_folder):
     """Changes in another form are as if they were not there: then a merge may have moved any package."""
     for changes in ("x", [["hello"]], [["hello", 1, "Failed", "1"]], [[None, None, "Failed", "1"]], {}):
@@ -293,6 +356,12 @@ def rows_of(connection):
 
 def update(folder, status=0, message=""):
     return call(folder, "journal", "index", status=status, message=message)
+
+
+def update_here(folder):
+    """Brings the index up to date in this program."""
+    with contextlib.closing(tables.open_to_write(folder / "journal.index")) as connection:
+        expect(not list(read_on(connection, folder / "journal")), "lines are amiss")
 
 
 def expect_same(folder, data):
@@ -484,30 +553,33 @@ def takes_a_millisecond_a_line(folder):
     again = time.process_time() - begun
     expect(again < 0.1, f"nothing new took {again:.3f} seconds")
     of_merge = first_merge_takes(folder)
-    expect(of_merge < 10, f"the line of a first merge took {of_merge:.1f} seconds")
-    return f"{took / 20:.3f} ms a line, and a first merge of 16,000 records {of_merge:.1f} s"
+    expect(of_merge < 10, f"the lines of a first merge and of a removal took {of_merge:.1f} seconds")
+    return f"{took / 20:.3f} ms a line, and a first merge of 16,000 records and their removal {of_merge:.1f} s"
 
 
 def first_merge_takes(folder):
-    """How many seconds the line of a merge takes that adds 16,000 records, which has a megabyte."""
+    """How many seconds the lines take of a merge that adds 16,000 records, which has a megabyte, and of the removal of
+    their architecture."""
     one = Named()
     changes = [[f"source-{at:05}", None, "Installed", f"1.{at}-1"] for at in range(16000)]
     one.merge(on(9, "08:00:00"), ("amd64", changes))
+    one.add(on(9, "09:00:00"), "remove-arch", name="amd64")
     (folder / "first").write_bytes(one.data())
     connection, begun = tables.open_to_write(folder / "first.index"), time.process_time()
     expect(not list(read_on(connection, folder / "first")), "a line is amiss")
     took = time.process_time() - begun
-    expect(next(connection.execute("SELECT count(*) FROM package")) == (16000,), "records were lost")
+    met = connection.execute("SELECT count(*), sum(state = '') FROM package").fetchone()
+    expect(met == (16000, 16000), f"of 16,000 records {met[0]} are there, {met[1]} of them removed")
     return took
 
 
 TESTS = [
     merges_and_reports_name_what_they_moved, keeps_a_build_that_a_merge_leaves, keeps_what_was_said_of_a_state,
     says_since_when, guesses_nothing, asks_each_architecture_for_itself, doubts_what_is_before_a_gap,
-    takes_odd_changes_for_none, keeps_texts_and_numbers_that_sqlite_lacks, reads_on_line_by_line,
-    passes_over_broken_lines, follows_rotated_journals, says_that_a_part_is_gone, forgets_what_a_copy_lacks,
-    reads_long_lines_in_parts, takes_its_own_files_alone, answers_from_an_index_elsewhere, passes_over_other_keys,
-    takes_a_millisecond_a_line,
+    removes_what_an_architecture_has, brings_back_what_a_copy_has, takes_odd_changes_for_none,
+    keeps_texts_and_numbers_that_sqlite_lacks, reads_on_line_by_line, passes_over_broken_lines,
+    follows_rotated_journals, says_that_a_part_is_gone, forgets_what_a_copy_lacks, reads_long_lines_in_parts,
+    takes_its_own_files_alone, answers_from_an_index_elsewhere, passes_over_other_keys, takes_a_millisecond_a_line,
 ]
 
 if __name__ == "__main__":

@@ -300,8 +300,9 @@ class Index:
         return [source for (source,) in rows]
 
     def names_with(self, text: str) -> list[str]:
-        """The names in the journal that have a text in them."""
-        rows = self.rows("SELECT DISTINCT source FROM package WHERE instr(source, ?) ORDER BY source", (text,))
+        """The names of packages that have a text in them and a record, as far as the journal knows."""
+        condition = "instr(source, ?) AND state != ''"
+        rows = self.rows(f"SELECT DISTINCT source FROM package WHERE {condition} ORDER BY source", (text,))
         return [source for (source,) in rows]
 
     # ---- builds

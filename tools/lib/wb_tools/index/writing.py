@@ -153,12 +153,14 @@ class Writer:
             self.add(entry, arch=arch, source=source, state=state, version=text_of(entry.words.get("version") or ""))
 
     def add_removals(self, entry: Entry) -> None:
-        """What the removal of an architecture made of its packages, as far as the journal knows them."""
+        """What the removal of an architecture made of its packages, as far as the journal knows them, each with the
+        version of its last move."""
         self.flush()
-        statement = "SELECT source FROM package WHERE arch = ? AND state != '' ORDER BY source"
+        statement = """SELECT package.source, version FROM package JOIN event ON id = event
+          WHERE package.arch = ? AND package.state != '' ORDER BY package.source"""
         arch = name_of(entry.words.get("name"))
-        for (source,) in self.connection.execute(statement, (arch,)).fetchall():
-            self.add(entry, arch=arch, source=source, state="")
+        for source, version in self.connection.execute(statement, (arch,)).fetchall():
+            self.add(entry, arch=arch, source=source, state="", version=version)
 
     def add_hand_out(self, entry: Entry) -> None:
         answer = entry.answer
