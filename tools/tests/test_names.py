@@ -13,9 +13,10 @@ import subprocess
 import sys
 
 from harness import WB, expect, main, run
+from test_history import NOW, example
 from test_status import EXAMPLE, WAIT, StandIn, call, expect_the_example, line, record, serving
 from wanna_build_runs import Network
-from web_runs import Site, odd_office, office
+from web_runs import Site, odd_office, office, update
 
 ARCHS = ("amd64", "arm64")
 PAIRS = (("b1", "amd64"), ("b1", "arm64"), ("b2", "amd64"))
@@ -170,9 +171,22 @@ def shows_all_on_the_site(folder):
             expect(text.count("does not say its architectures: name them in ARCHS") == 1, f"{path}: {text}")
 
 
+def shows_builders_that_an_older_office_had(folder):
+    """If the office does not say its builders, and the settings name none, those are called silent of which the journal
+    has a word and had none for long."""
+    (folder / "office.journal").write_bytes(example().data())
+    update(folder)
+    with StandIn() as older:
+        given = {"SUITES": f"sid={older.server_port}", "INDEXES": f"sid={folder}/office.journal.index"}
+        with Site(folder, now=NOW + 10**6, **given, ARCHS="sid=amd64,arm64") as site:
+            tables = site.page("/").tables
+            [silent] = [table for caption, table in tables.items() if caption.startswith("Builders without")]
+            expect([row["Builder"] for row in silent] == ["b1", "b2", "a1"], f"{silent}")
+
+
 TESTS = [
     asks_the_office_for_names, says_that_an_office_is_older, asks_the_program_for_names, takes_the_only_architecture,
-    means_all_by_request_lines, shows_all_on_the_site,
+    means_all_by_request_lines, shows_all_on_the_site, shows_builders_that_an_older_office_had,
 ]
 
 if __name__ == "__main__":

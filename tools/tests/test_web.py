@@ -299,12 +299,46 @@ def says_why_there_is_nothing(folder):
         page = site.page("/package/s149")
         expect(page.tables["Where it stands"][0]["Place"] == "150 of 250", f"{page.tables}")
         expect(page.links["150"] == "/arch/amd64/Needs-Build?suite=sid&page=2", f"{page.links}")
-        expect("No record on arm64: no merge found it listed there." in page.text, page.text)
+        said = "No record on arm64: no merge found it listed there, or it was removed."
+        expect(said in page.text, page.text)
         expect("Needs-Build It waits in the queue for a builder." in page.text, page.text)
         expect(page.links["What names it"] == "/?q=s149", f"{page.links}")
         expect(site.json("/package/s149.json")["absent"] == [{"arch": "arm64", "suite": "sid"}], "its JSON")
         page = site.page("/package/s999", 404)
         expect(page.links["Search for it"] == "/?q=s999", f"{page.links}")
+
+
+def shows_what_was_removed(folder):
+    """A record that was forgotten, and an architecture and a builder that were removed: that stands in the history of
+    each package and in its feed, and they are on no list; a builder that was removed keeps its builds and is not called
+    silent."""
+    lines = [*ARCHS, "add-builder a2 arm64", "enter amd64 hello 1.0 optional devel", "enter amd64 tar 3 optional libs"]
+    lines += [f"enter arm64 {name} 1.0 optional devel" for name in ("hello", "harp")]
+    lines += ["next arm64 a1", "attempted 1 cc died", "remove-builder a2 arm64", "forget amd64 hello 1.0"]
+    with office(folder, [*lines, "remove-arch arm64"]) as served:
+        given = {"SUITES": f"sid={served.port}", "INDEXES": f"sid={folder}/office.journal.index"}
+        with Site(folder, now=int(time.time()) + 10**6, **given) as site:
+            page = site.page("/package/hello")
+            met = [(row["Architecture"], row["Command"], row["State"]) for row in page.tables["History"]]
+            expect(met[:2] == [("arm64", "remove-arch", "removed"), ("amd64", "forget", "removed")], f"{met}")
+            expect("Where it stands: no office has a record of it now." in page.text, page.text)
+            titles = re.findall("<title>(hello [^<]*)</title>", site.ask("/feed/package/hello")[1])
+            expect(titles[:2] == ["hello 1.0 on arm64: removed", "hello 1.0 on amd64: removed"], f"{titles}")
+            page = site.page("/")
+            expect([row["Architecture"] for row in page.tables["Packages in each state"]] == ["amd64"], "architectures")
+            [silent] = [table for caption, table in page.tables.items() if caption.startswith("Builders without")]
+            expect([row["Builder"] for row in silent] == ["b1"], f"{silent}")
+            for path in ("/arch/arm64", "/arch/arm64/Needs-Build", "/builder/a2"):
+                site.ask(path, 404)
+            expect([row["Package"] for row in site.page("/builder/a1").tables["Builds"]] == ["harp"], "its builds")
+            for word, names in {"h": [], "har": [], "a": ["tar"]}.items():
+                found = site.json(f"/index.json?q={word}")["found"]
+                met = [row["source"] for row in found["rows"]]
+                expect((met, found["total"]) == (names, len(names)), f"{word}: {found}")
+            rows = site.page("/history?command=remove-arch").tables["Events, the last first"]
+            expect(sorted(row["Package"] for row in rows) == ["harp", "hello"], f"{rows}")
+            served.post("/v1/remove-builder", name="b1", arch="amd64")
+            expect("Builders without a word for 24 hours" not in site.page("/").tables, "an office without builders")
 
 
 def sorts_and_parts_lists(folder):
@@ -585,9 +619,9 @@ def has_texts_that_are_seen():
 TESTS = [
     shows_a_package, shows_where_all_stands, shows_a_builder, finds_packages, reads_lists_as_they_are_pasted,
     counts_what_is_left, leaves_out_what_is_done, proposes_names, tells_what_happened, leads_to_the_logs_of_failures,
-    shows_a_porter_what_failed, says_why_there_is_nothing, sorts_and_parts_lists, keeps_texts_texts,
-    says_what_its_answers_are, has_links_that_lead_somewhere, says_what_is_missing, shows_what_it_has,
-    shows_an_office_without_architectures, waits_no_longer_than_it_says, says_before_when,
+    shows_a_porter_what_failed, says_why_there_is_nothing, shows_what_was_removed, sorts_and_parts_lists,
+    keeps_texts_texts, says_what_its_answers_are, has_links_that_lead_somewhere, says_what_is_missing,
+    shows_what_it_has, shows_an_office_without_architectures, waits_no_longer_than_it_says, says_before_when,
     says_before_a_merge_that_names_nothing, follows_its_index, takes_the_settings_that_it_says, lists_its_settings,
     has_texts_that_are_seen, *form_cases.TESTS,
 ]

@@ -211,7 +211,7 @@ def builder(visit: Visit, name: str) -> Page:
             found = visit.ask(suite, "mine", name)
             visit.ask_accepted(suite)
             held += [row_of(suite, one) for one in found["records"]] if found else []
-            is_known = is_known or found is not None or name in visit.known(suite).builders
+            is_known = is_known or found is not None or name in (visit.known(suite).builders or ())
         with visit.of(suite):
             index = visit.index(suite)
             figures += figure_rows(index, suite, name) if index else []

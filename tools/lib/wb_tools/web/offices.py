@@ -77,9 +77,9 @@ class Known:
         return self.suite.archs or self.__dict__.get("archs", ())
 
     @functools.cached_property
-    def builders(self) -> tuple[str, ...]:
-        """An older office does not say its builders: those of which the journal has a word are shown then."""
-        return self.suite.builders or self.named("builders", "builder") or ()
+    def builders(self) -> tuple[str, ...] | None:
+        """None if an older office does not say its builders: those of which the journal has a word are shown then."""
+        return self.suite.builders or self.named("builders", "builder")
 
     def named(self, query: str, key: str) -> tuple[str, ...] | None:
         """The names that an office answers, or none if it does not know the query."""

@@ -112,9 +112,11 @@ def oldest_rows(visit: Visit, suite: Suite) -> list[Row]:
 
 
 def silent_rows(visit: Visit, suite: Suite) -> Iterable[Row]:
+    """Those of the builders that the office has; of an older office, those of which the journal has a word."""
     index = visit.index(suite)
     heard = index.last_heard() if index else {}
-    for builder in sorted({*heard, *visit.known(suite).builders} if index else ()):
+    known = visit.known(suite).builders if index else ()
+    for builder in sorted(heard if known is None else known):
         at = heard.get(builder)
         if at is None or visit.now - at > 3600 * visit.settings.silent:
             yield {"suite": suite.name, "builder": builder, "at": at and time_of(at)}
