@@ -1,8 +1,8 @@
 #!/usr/bin/env python3
-"""Tests of what a merge and a report leave in the history of each package. The records before and after are asked of an
-office that is served: what its journal, the index of that and `wb-history` say was changed is their difference, of each
-package, and so are since when each record is in its state, the builds and the counts by day. What no line tells, since
-a kill cost it or since it has no changes, is a gap or a doubt, and no time is guessed.
+"""Tests of what a merge, a report and a removal leave in the history of each package. The records before and after are
+asked of an office that is served: what its journal, the index of that and `wb-history` say was changed is their
+difference, of each package, and so are since when each record is in its state, the builds and the counts by day. What
+no line tells, since a kill cost it or since it has no changes, is a gap or a doubt, and no time is guessed.
 
     tools/tests/test_merge_history.py [NAME..]     these tests, or all
 
@@ -177,7 +177,7 @@ class Office:
         found = {}
         for arch in ARCHS:
             for state in STATES:
-                answer = self.ask("GET", f"state/{arch}/{state}")
+                answer = self.ask("GET", f"state/{arch}/{state}") or {"records": []}  # it is removed
                 found |= {(arch, one["source"]): one for one in answer["records"]}
         return found
 
@@ -422,6 +422,54 @@ def reports(office):
     yield office.report(arch, "")
 
 
+def tells_of_removals(folder):
+    """Records that are forgotten, one after another, and an architecture that is removed once its holds are ended: the
+    history of each of their packages says so with its version, and that of no other. Once the architecture is there
+    again, a merge makes all of its records new."""
+    first, second = ARCHS
+    with Office(folder) as office:
+        office.look(office.begin())
+        office.work()
+        free = [one for key, one in sorted(office.records.items()) if key[0] == first and one["holder"] is None]
+        for one in free[:: len(free) // 5]:
+            named = {key: one[key] for key in ("arch", "source", "version")}
+            expect_removal(office, office.post("forget", **named)["accepted"], "forget", [(first, one["source"])])
+        of_second = [key for key in office.records if key[0] == second]
+        for key in (key for key in of_second if office.records[key]["holder"]):
+            named = {name: office.records[key][name] for name in ("arch", "source", "version")}
+            office.note(key, "Needs-Build", office.post("give-back", **named)["accepted"])
+        office.records = office.all_records()
+        accepted = office.post("remove-arch", name=second)["accepted"]
+        expect_removal(office, accepted, "remove-arch", of_second)
+        for name, words in (("add-arch", {"name": second, "os": "linux", "cpu": second}),
+                            ("add-builder", {"name": BUILDERS[second], "arch": second})):
+            office.post(name, **words)
+        said = expect_all(office, office.merge(), "merge")
+        added = {key for key, change in office.changes.items() if not change[0]}
+        expect({key for key in office.records if key[0] == second} <= added, "records came back by a merge")
+    return f"{len(of_second)} records were removed; {said}"
+
+
+def expect_removal(office, accepted, command, keys):
+    """The line of this count removed the records of these keys and no other; so says the index, and the history of each
+    of their packages."""
+    versions = {key: office.records[key]["version"] for key in keys}
+    office.look(accepted)
+    others = sorted(office.changes.keys() ^ set(keys))
+    expect(not others, f"{command} changed others, or not these: {others[:3]}")
+    index = index_of(office)
+    found = {(event.arch, event.source): event for event in index.events("accepted = ?", (accepted,))}
+    met = {key: (event.command, event.state, event.version) for key, event in found.items()}
+    expect_none(differences("the index", met, {key: (command, "", versions[key]) for key in keys}))
+    last = rows(office, "package", *keys[0])[-1]
+    expect((last["command"], last["state"]) == (command, "removed"), f"{keys[0]}: {last}")
+    expect_since(office, index)
+    expect_counts(office, index)
+    expect_builds(office, index)
+    expect(not index.gaps() and not index.unnamed, "there is a gap or a doubt")
+    index.connection.close()
+
+
 def tells_of_other_fields(folder):
     """A merge that changes only what a package needs to be built is in its history, and changes nothing of since when
     it is in its state."""
@@ -598,8 +646,8 @@ def journals_that_begin_late_say_before(folder):
 
 
 TESTS = [
-    follow_from_the_records, tells_of_other_fields, kills_cost_a_line_and_show_a_gap, lines_that_are_cut_show_a_gap,
-    lines_without_changes_are_doubts, journals_that_begin_late_say_before,
+    follow_from_the_records, tells_of_removals, tells_of_other_fields, kills_cost_a_line_and_show_a_gap,
+    lines_that_are_cut_show_a_gap, lines_without_changes_are_doubts, journals_that_begin_late_say_before,
 ]
 
 if __name__ == "__main__":
