@@ -27,13 +27,13 @@ PROGRAM = "wb-history"
 DESCRIPTION = """Answers questions from the journal that `wb run` and `wb serve` write with --journal FILE: a line for
 each accepted command, with the time.
 
-The questions: `package` is what became of a package, by each command that names it, and by each merge and report whose
-line says what it moved; `ages` how long what builds has been building, how long ago what is Built or Uploaded was
-reported, and how long what waits has waited, or what is in any state; `builds` each build with its result and how long
-it took; `builders` what each builder did and how long its builds took; `suspects` what builds for much longer than it
-should; `days` how many packages were built on each day; `states` how many came into each state on each day; `gaps`
-where commands are missing between two lines, which a kill may have cost, or where the office went back to an older
-state.
+The questions: `package` is what became of a package, by each command that names it, by each merge and report whose line
+says what it moved, and by the removal of its architecture; `ages` how long what builds has been building, how long ago
+what is Built or Uploaded was reported, and how long what waits has waited, or what is in any state; `builds` each build
+with its result and how long it took; `builders` what each builder did and how long its builds took; `suspects` what
+builds for much longer than it should; `days` how many packages were built on each day; `states` how many came into each
+state on each day; `gaps` where commands are missing between two lines, which a kill may have cost, or where the office
+went back to an older state.
 
 `index` makes a database of sqlite3 of the journal, JOURNAL.index if --index names no other file, or reads the journal
 on from where the index ends, also after logrotate has moved it away. If there is such a file, all questions read on in
