@@ -194,8 +194,8 @@ class Client:
             arch = pick.choice([*self.load.held.values(), LATER[1]])
         bodies = {"add-arch": {"name": arch, "os": "linux", "cpu": arch}, "remove-arch": {"name": arch}}
         bodies |= dict.fromkeys(("add-builder", "remove-builder"), {"name": builder, "arch": arch})
-        bodies |= {"next": {"arch": arch, "builder": builder}}
-        bodies |= {"enter": {**named, "priority": "extra", "section": "doc"}}
+        bodies["next"] = {"arch": arch, "builder": builder}
+        bodies["enter"] = {**named, "priority": "extra", "section": "doc"}
         return name, bodies.get(name, named)
 
     def with_texts(self, name, body):
