@@ -29,6 +29,7 @@ What a crash may leave is more than is tried here: what was written since the la
 Clauses speak of these, once a call has returned.
 """
 import contextlib
+import functools
 import itertools
 import json
 import os
@@ -442,49 +443,49 @@ def stop_run(before, lines, closes=True, again=False):
         return stops
 
 
-def least_that(holds, near=1):
-    """The least number of which this holds, as it does of all after it, or one above it by less than is near: it is
+def least_that(holds):
+    """About the least number of which this holds, as it does of all after it, and the exact one if that is small: it is
     asked of numbers that grow fourfold, and then of one between two."""
     low, high = -1, 0
     while not holds(high):
         low, high = high, 4 * high + 1
         expect(high < MOST_OF_LARGE, f"it still stops after {low} calls")
-    while high - low > near:
+    while high - low > 1 + high // 64:
         middle = (low + high) // 2
         low, high = (low, middle) if holds(middle) else (middle, high)
     return high
 
 
 def stop_large(before, line):
-    """The stops of a session of one line that changes very many rows, in the one file or in the other: at calls that
-    are spread over all that the line takes, and closest together where it is about to be answered. Either all of it
-    stands or nothing. Not tried are stops of the closing, after which the files are not given back."""
+    """The stops of a session of one line that changes very many rows, in the one file or in the other, at each call
+    that the line takes if these are few, or else at some. Either all of the line stands or nothing. Not tried are stops
+    of the closing, after which the files are not given back."""
     files = FILES | {"large": LARGE}
-    expected, seen, stops = Expected(before, [line], files), set(), 0
+    expected, seen, within = Expected(before, [line], files), set(), set()
     with Trials(files) as trials:
         trials.begin(before, True)
         session = trials.lines("lines", [line]).replace("run", "session")
 
-        def stage_of(calls):
+        @functools.cache
+        def stage_of(calls, left=LOST):
             """Where the session stops: in the opening, within the line, or after that was answered."""
-            nonlocal stops
-            left = ENDS[stops % len(ENDS)]
             found, where = trials.trial((session, calls, left)), f"stopped at {calls}, {left}"
-            done, stops = found.accepted(), stops + (not found.faults)
+            done = found.accepted()
             if found.rows is not None:
                 seen.add((done, expected.place(found, 0, 1, where)))
             expect(found.rows is not None or found.faults or done, f"{where}: {found.answers}, and no files")
+            within.update([(calls, left)] if not found.faults and not done else [])
             return OPENING if found.faults else WITHIN + done
 
         for pair in (lambda calls: (calls, NEVER)), (lambda calls: (NEVER, calls)):
+            first = least_that(lambda calls: stage_of(pair(calls)) > OPENING)
             last = least_that(lambda calls: stage_of(pair(calls)) > WITHIN)
-            first = least_that(lambda calls: stage_of(pair(calls)) > OPENING, last // 32 + 1)
-            between = {first + (last - first) * at // SPREAD for at in range(SPREAD)} | {*range(last - 4, last)}
-            met = {stage_of(pair(calls)) for calls in sorted(between) if first <= calls < last}
-            expect(met <= {WITHIN}, f"not each call from {first} to {last} stops the line")
+            some = {first + (last - first) * at // SPREAD for at in range(SPREAD)} | {*range(last - 3, last)}
+            for calls, left in itertools.product(sorted(calls for calls in some if first <= calls < last), ENDS):
+                stage_of(pair(calls), left)
         expect(stage_of((NEVER, NEVER)) > WITHIN, "it stops without a stop")
-    expect(seen >= {(0, 0), (1, 1)} and stops > 30, f"{sorted(seen)} are found in {stops} stops")
-    return stops
+    expect(seen >= {(0, 0), (1, 1)} and len(within) > 8, f"{sorted(seen)} are found in {len(within)} stops")
+    return len(within)
 
 
 def stop_twice(before, line):
