@@ -220,7 +220,7 @@ class Porter(Client):
 
 class Operator(Client):
     """A person who adds and removes, of three kinds: an architecture that has a builder and packages of its own, pairs
-    of the builders that are at work, and records of what these build. Merges bring the records back too."""
+    of builders, and records of what these build. Merges bring the records back too."""
 
     def __init__(self, board: Board, chance: random.Random, office: Soaked) -> None:
         super().__init__(board, chance)
@@ -245,8 +245,10 @@ class Operator(Client):
         self.command(command, **body)
 
     def change_pair(self) -> None:
-        name, arch = self.chance.choice([(name, arch) for name, archs in BUILDERS.items() for arch in sorted(archs)])
-        self.command(self.chance.choice(("remove-builder", "add-builder", "add-builder")), name=name, arch=arch)
+        """Adds or removes a pair, most often one whose builder holds something, or one that is never at work."""
+        pairs = [(name, arch) for name, archs in BUILDERS.items() for arch in sorted(archs)]
+        name, arch = self.chance.choice([*pairs, *(("b4", arch) for arch in ARCHS)])
+        self.command(self.chance.choice(("remove-builder", "add-builder")), name=name, arch=arch)
 
     def change_record(self) -> None:
         if self.versions:
