@@ -1,11 +1,9 @@
-/* Texts, versions, architectures, relations and paragraphs of control data, as Debian Policy has them, for
- * merge_beside_sqlite.c. They are read as a merge reads them, but for the faults: a list is taken for well-formed. */
+/* Texts, architectures, relations and fields of control data, as Debian Policy has them, for merge_office.h. They are
+ * read as a merge reads them, but for the faults: a list is taken for well-formed. It is C, and C++ as GNU has it. */
 #include <ctype.h>
 #include <stdio.h>
 #include <stdlib.h>
 #include <string.h>
-#include <strings.h>
-#include <sys/types.h>
 
 enum { RELATIONS_LIMIT = 65536 };
 
@@ -17,7 +15,7 @@ static void fail(const char *what);
 struct text { char *at; size_t size, room; };
 
 static void add(struct text *to, const char *from, size_t size) {
-    if (to->size + size + 1 > to->room && !(to->at = realloc(to->at, to->room = 2 * (to->size + size) + 64)))
+    if (to->size + size + 1 > to->room && !(to->at = (char *)realloc(to->at, to->room = 2 * (to->size + size) + 64)))
         fail("memory");
     memcpy(to->at + to->size, from, size);
     to->size += size;
@@ -42,60 +40,6 @@ static int same(const char *one, const char *other) {
 }
 
 static int is_blank(char of) { return of == ' ' || of == '\t'; }
-
-/* ---- versions, ordered as Debian Policy 5.6.12 says */
-
-static int weight(const char *at, const char *end) {
-    if (at == end || isdigit((unsigned char)*at)) return 0;
-    if (isalpha((unsigned char)*at)) return *at;
-    return *at == '~' ? -1 : *at + 256;
-}
-
-static int compare_parts(const char *one, const char *one_end, const char *other, const char *other_end) {
-    while (one < one_end || other < other_end) {
-        int first = 0;
-        while ((one < one_end && !isdigit((unsigned char)*one)) ||
-            (other < other_end && !isdigit((unsigned char)*other))) {
-            int differ = weight(one, one_end) - weight(other, other_end);
-            if (differ) return differ;
-            one++, other++;
-        }
-        while (one < one_end && *one == '0') one++;
-        while (other < other_end && *other == '0') other++;
-        while (one < one_end && other < other_end && isdigit((unsigned char)*one) && isdigit((unsigned char)*other)) {
-            if (!first) first = *one - *other;
-            one++, other++;
-        }
-        if (one < one_end && isdigit((unsigned char)*one)) return 1;
-        if (other < other_end && isdigit((unsigned char)*other)) return -1;
-        if (first) return first;
-    }
-    return 0;
-}
-
-struct version { long epoch; const char *upstream, *upstream_end, *revision, *end; };
-
-static struct version parts_of(const char *text) {
-    const char *colon = strchr(text, ':'), *upstream = colon ? colon + 1 : text, *end = text + strlen(text),
-               *hyphen = strrchr(upstream, '-');
-    return (struct version){colon ? atol(text) : 0, upstream, hyphen ? hyphen : end, hyphen ? hyphen + 1 : end, end};
-}
-
-static int compare(const char *one_text, const char *other_text) {
-    struct version one = parts_of(one_text), other = parts_of(other_text);
-    if (one.epoch != other.epoch) return one.epoch < other.epoch ? -1 : 1;
-    int by_upstream = compare_parts(one.upstream, one.upstream_end, other.upstream, other.upstream_end);
-    return by_upstream ? by_upstream : compare_parts(one.revision, one.end, other.revision, other.end);
-}
-
-/* The number N of a version that ends in +bN, of at most three digits, else 0. */
-static int rebuild_number(const char *version) {
-    const char *end = version + strlen(version), *digits = end;
-    while (digits > version && isdigit((unsigned char)digits[-1])) digits--;
-    return digits < end && end - digits <= 3 && digits - version >= 2 && digits[-1] == 'b' && digits[-2] == '+'
-        ? atoi(digits)
-        : 0;
-}
 
 /* ---- architectures and relations (Debian Policy 7.1), reduced for one and printed */
 
@@ -141,7 +85,7 @@ static struct piece take(struct piece *of, const char *characters) {
 static int take_inside(struct piece *of, char left, char right, struct piece *inside) {
     skip_blanks(of);
     if (of->at == of->end || *of->at != left) return 0;
-    const char *close = memchr(of->at, right, (size_t)(of->end - of->at));
+    const char *close = (const char *)memchr(of->at, right, (size_t)(of->end - of->at));
     if (!close) return -1;
     *inside = (struct piece){of->at + 1, close};
     of->at = close + 1;
@@ -189,15 +133,15 @@ static const char *operator_of(struct piece word) {
 /* Prints ` (OPERATOR VERSION)` for what stands in the brackets; 0 if it cannot be read. */
 static int print_restriction(struct piece inside, struct text *to) {
     skip_blanks(&inside);
-    const char *operator = operator_of(take(&inside, "<=>"));
+    const char *sign = operator_of(take(&inside, "<=>"));
     skip_blanks(&inside);
     struct piece version = {inside.at, inside.at};
     while (version.end < inside.end && !is_blank(*version.end)) version.end++;
     inside.at = version.end;
     skip_blanks(&inside);
-    if (!operator || version.at == version.end || inside.at < inside.end) return 0;
+    if (!sign || version.at == version.end || inside.at < inside.end) return 0;
     add_text(to, " (");
-    add_text(to, operator);
+    add_text(to, sign);
     add_text(to, " ");
     add(to, version.at, (size_t)(version.end - version.at));
     add_text(to, ")");
@@ -230,7 +174,7 @@ static int print_alternative(struct piece of, const struct arch *arch, struct te
 
 /* Where the piece ends that begins here: at this mark or at the end. */
 static const char *end_of(struct piece rest, char mark) {
-    const char *found = memchr(rest.at, mark, (size_t)(rest.end - rest.at));
+    const char *found = (const char *)memchr(rest.at, mark, (size_t)(rest.end - rest.at));
     return found ? found : rest.end;
 }
 
@@ -282,57 +226,6 @@ static char *depends_of(const char *depends, const char *depends_arch, const str
     return copy(made.at);
 }
 
-/* ---- paragraphs */
+/* ---- fields of a paragraph */
 
-struct list { const char *name; FILE *file; char *line; size_t room; long long place; };
 struct field { const char *name; int is_there; struct text value; };
-
-static void add_trimmed(struct text *to, const char *at, const char *end) {
-    while (at < end && is_blank(*at)) at++;
-    while (at < end && is_blank(end[-1])) end--;
-    if (at < end && to->size) add_text(to, " ");
-    add(to, at, (size_t)(end - at));
-}
-
-/* The field that the line begins, with its first line, if it is one of these. */
-static struct field *begin_field(struct field *fields, size_t count, const char *line, const char *end) {
-    const char *colon = memchr(line, ':', (size_t)(end - line));
-    if (!colon) fail(line);
-    for (struct field *of = fields; of < fields + count; of++) {
-        if (strlen(of->name) != (size_t)(colon - line) || strncasecmp(of->name, line, (size_t)(colon - line)) != 0)
-            continue;
-        of->is_there = 1;
-        add_trimmed(&of->value, colon + 1, end);
-        return of;
-    }
-    return NULL;
-}
-
-/* The next paragraph, its values folded, if there is one. */
-static int next_paragraph(struct list *from, struct field *fields, size_t count) {
-    struct field *last = NULL;
-    int is_begun = 0;
-    for (struct field *of = fields; of < fields + count; of++) empty(&of->value), of->is_there = 0;
-    for (ssize_t size; (size = getline(&from->line, &from->room, from->file)) > 0;) {
-        const char *end = from->line + size - (from->line[size - 1] == '\n'), *at = from->line;
-        while (at < end && is_blank(*at)) at++;
-        if (at == end && is_begun) break;
-        if (at == end) continue;
-        is_begun = 1;
-        if (at == from->line) last = begin_field(fields, count, at, end);
-        else if (last) add_trimmed(&last->value, at, end);
-    }
-    from->place += is_begun;
-    return is_begun;
-}
-
-static struct list open_list(const char *name) {
-    struct list made = {.name = name, .file = fopen(name, "r")};
-    if (!made.file) fail(name);
-    return made;
-}
-
-static void close_list(struct list *old) {
-    free(old->line);
-    fclose(old->file);
-}
