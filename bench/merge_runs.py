@@ -46,6 +46,11 @@ class Program:
     def spent(self):
         return int((self.of / "schedstat").read_text().split()[0]) / 1e9
 
+    def user(self):
+        """Seconds of the processor so far, without those of the system, in hundredths."""
+        fields = (self.of / "stat").read_text().rpartition(")")[2].split()
+        return int(fields[11]) / os.sysconf("SC_CLK_TCK")
+
     def memory(self):
         """Resident memory in MB, now and at its peak."""
         fields = dict(line.split(":", 1) for line in (self.of / "status").read_text().splitlines())
